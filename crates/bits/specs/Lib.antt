@@ -1,0 +1,2 @@
+-- What bit fields are. Assumes nothing.
+pub mod Bits

@@ -1,0 +1,2 @@
+-- The laws of colours. Assumes nothing.
+pub mod Laws

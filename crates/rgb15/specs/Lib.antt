@@ -1,0 +1,2 @@
+-- What colours are. Assumes nothing.
+pub mod Colour

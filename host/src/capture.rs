@@ -1,0 +1,312 @@
+//! Captures: a folder of four files, or a save state of the emulator mGBA, raw or in its PNG form.
+
+use std::fs::{self, File};
+use std::io::{self, Read};
+use std::path::Path;
+
+use anyhow::{Context, Result, anyhow, bail, ensure};
+use flate2::Crc;
+use flate2::bufread::ZlibDecoder;
+
+use crate::engine::{OAM_LEN, PALETTE_LEN, REGISTERS_LEN, VRAM_LEN};
+use crate::exit::Refused;
+
+/// Video memory as the hardware has it; the Rust's memory above it stays 0.
+const VRAM_USED: usize = 0x18000;
+
+/// The files of a folder, with the lengths that they may have.
+const VRAM: (&str, &[usize]) = ("vram.bin", &[VRAM_LEN, VRAM_USED]);
+const PALETTE: (&str, &[usize]) = ("palette.bin", &[PALETTE_LEN]);
+const OAM: (&str, &[usize]) = ("oam.bin", &[OAM_LEN]);
+const REGISTERS: (&str, &[usize]) = ("registers.bin", &[REGISTERS_LEN]);
+
+// mGBA's save state: where each part lies. What follows STATE_LEN in a raw one (save data, cheats) isn't needed.
+const STATE_LEN: usize = 0x61000;
+const STATE_MAGIC: u32 = 0x0100_0007;
+const STATE_REGISTERS: usize = 0x400;
+const STATE_PALETTE: usize = 0x800;
+const STATE_OAM: usize = 0xc00;
+const STATE_VRAM: usize = 0x1000;
+
+const PNG_SIGNATURE: &[u8] = b"\x89PNG\r\n\x1a\n";
+
+/// Far above any capture's length, so that a wrong path can't fill the memory.
+const FILE_MAX: usize = 0x100_0000;
+
+const A_CAPTURE: &str = "a folder with vram.bin, palette.bin, oam.bin and registers.bin, or an mGBA save state";
+
+/// The memory that a draw takes, each part of the draw's length.
+#[derive(Debug, PartialEq)]
+pub struct Capture {
+    pub vram: Vec<u8>,
+    pub palette: Vec<u8>,
+    pub oam: Vec<u8>,
+    pub registers: Vec<u8>,
+}
+
+impl Capture {
+    pub fn read(path: &Path) -> Result<Capture> {
+        if path.is_dir() {
+            return read_folder(path);
+        }
+        let named = || path.display().to_string();
+        let bytes = read_file(path).map_err(|error| unreadable(error, A_CAPTURE, "give the path of one"));
+        decode_state(&bytes.with_context(named)?).with_context(named)
+    }
+
+    /// Whether `path` is one of the files that the capture is read from.
+    pub fn reads(capture: &Path, path: &Path) -> bool {
+        let Ok(path) = fs::canonicalize(path) else {
+            return false;
+        };
+        let files = [VRAM, PALETTE, OAM, REGISTERS].map(|(name, _)| capture.join(name));
+        let mut all = files.into_iter().chain([capture.to_owned()]);
+        all.any(|file| fs::canonicalize(file).is_ok_and(|file| file == path))
+    }
+}
+
+/// A whole file, or one byte more than any capture has.
+fn read_file(path: &Path) -> io::Result<Vec<u8>> {
+    let mut bytes = Vec::new();
+    File::open(path)?.take(FILE_MAX as u64 + 1).read_to_end(&mut bytes)?;
+    Ok(bytes)
+}
+
+fn unreadable(error: io::Error, expected: &str, way_out: &str) -> anyhow::Error {
+    anyhow!("can't be read: {error}, expected {expected}; {way_out}")
+}
+
+fn read_folder(folder: &Path) -> Result<Capture> {
+    let mut vram = read_part(folder, VRAM)?;
+    vram.resize(VRAM_LEN, 0);
+    Ok(Capture {
+        vram,
+        palette: read_part(folder, PALETTE)?,
+        oam: read_part(folder, OAM)?,
+        registers: read_part(folder, REGISTERS)?,
+    })
+}
+
+fn read_part(folder: &Path, (name, lengths): (&str, &[usize])) -> Result<Vec<u8>> {
+    let path = folder.join(name);
+    let named = || path.display().to_string();
+    let expected = lengths.iter().map(usize::to_string).collect::<Vec<_>>().join(" or ");
+    let bytes = read_file(&path)
+        .map_err(|error| unreadable(error, &format!("{expected} bytes"), "the folder needs this file"))
+        .with_context(named)?;
+    if !lengths.contains(&bytes.len()) {
+        return Err(wrong_length(bytes.len(), &expected)).with_context(named);
+    }
+    Ok(bytes)
+}
+
+fn wrong_length(found: usize, expected: &str) -> anyhow::Error {
+    let found = if found > FILE_MAX { format!("more than {FILE_MAX}") } else { found.to_string() };
+    Refused { number: 2, found: format!("{found} bytes, expected {expected}") }.into()
+}
+
+/// Takes a save state of either form.
+fn decode_state(bytes: &[u8]) -> Result<Capture> {
+    if bytes.starts_with(PNG_SIGNATURE) { split(&inflate(find_state(bytes)?)?) } else { split(bytes) }
+}
+
+/// Takes a raw state apart.
+fn split(state: &[u8]) -> Result<Capture> {
+    if let Some(start) = state.first_chunk() {
+        check_magic(u32::from_le_bytes(*start))?;
+    }
+    if !(STATE_LEN..=FILE_MAX).contains(&state.len()) {
+        return Err(wrong_length(state.len(), &format!("{STATE_LEN} to {FILE_MAX} of a save state")));
+    }
+    let part = |start: usize, len: usize| state[start..start + len].to_vec();
+    let mut vram = part(STATE_VRAM, VRAM_USED);
+    vram.resize(VRAM_LEN, 0);
+    Ok(Capture {
+        vram,
+        palette: part(STATE_PALETTE, PALETTE_LEN),
+        oam: part(STATE_OAM, OAM_LEN),
+        registers: part(STATE_REGISTERS, REGISTERS_LEN),
+    })
+}
+
+/// The low byte is the version of the layout; only the one that was seen in real states is taken.
+fn check_magic(magic: u32) -> Result<()> {
+    let (kind, version) = (magic >> 8, magic & 0xff);
+    ensure!(
+        kind == STATE_MAGIC >> 8,
+        "starts with 0x{magic:08x}, expected 0x{STATE_MAGIC:08x} of an mGBA save state; give {A_CAPTURE}"
+    );
+    ensure!(
+        magic == STATE_MAGIC,
+        "save state of version {version}, expected {}; save it again with mGBA 0.10",
+        STATE_MAGIC & 0xff
+    );
+    Ok(())
+}
+
+/// The compressed state in a PNG. Every chunk is checked, since a damaged file is no evidence.
+fn find_state(png: &[u8]) -> Result<&[u8]> {
+    let mut rest = &png[PNG_SIGNATURE.len()..];
+    let mut state = None;
+    loop {
+        let chunk = next_chunk(&mut rest)
+            .with_context(|| format!("PNG damaged at byte {}, expected whole chunks", png.len() - rest.len()))?;
+        match chunk.kind {
+            b"gbAs" if state.is_some() => {
+                bail!("PNG with two gbAs chunks, expected one; save the state again with mGBA")
+            }
+            b"gbAs" => state = Some(chunk.data),
+            b"IEND" => break,
+            _ => {}
+        }
+    }
+    state.context("PNG with no gbAs chunk, expected a save state in one; give a state, not a screenshot")
+}
+
+struct Chunk<'a> {
+    kind: &'a [u8; 4],
+    data: &'a [u8],
+}
+
+/// Takes a chunk off the front of `rest`: length, kind, data, CRC of the kind and data.
+fn next_chunk<'a>(rest: &mut &'a [u8]) -> Result<Chunk<'a>> {
+    const WAY_OUT: &str = "copy or save the state again";
+    let cut = || anyhow!("ends inside a chunk; {WAY_OUT}");
+    let (length, after) = rest.split_first_chunk().ok_or_else(cut)?;
+    let length = u32::from_be_bytes(*length) as usize;
+    let (kind, after) = after.split_first_chunk().ok_or_else(cut)?;
+    let (data, after) = after.split_at_checked(length).ok_or_else(cut)?;
+    let (expected, after) = after.split_first_chunk().ok_or_else(cut)?;
+    let (found, expected) = (crc(kind, data), u32::from_be_bytes(*expected));
+    ensure!(found == expected, "CRC 0x{found:08x}, expected 0x{expected:08x}; {WAY_OUT}");
+    *rest = after;
+    Ok(Chunk { kind, data })
+}
+
+fn crc(kind: &[u8], data: &[u8]) -> u32 {
+    let mut crc = Crc::new();
+    crc.update(kind);
+    crc.update(data);
+    crc.sum()
+}
+
+/// Unpacks a state, and stops where it is longer than a state.
+fn inflate(packed: &[u8]) -> Result<Vec<u8>> {
+    let mut state = Vec::with_capacity(STATE_LEN + 1);
+    ZlibDecoder::new(packed)
+        .take(STATE_LEN as u64 + 1)
+        .read_to_end(&mut state)
+        .map_err(|error| anyhow!("gbAs chunk: {error}, expected zlib data; save the state again"))?;
+    if state.len() > STATE_LEN {
+        let found = format!("more than {STATE_LEN} bytes in gbAs, expected {STATE_LEN}");
+        return Err(Refused { number: 2, found }.into());
+    }
+    Ok(state)
+}
+
+#[cfg(test)]
+mod tests {
+    use std::io::Write;
+
+    use flate2::Compression;
+    use flate2::write::ZlibEncoder;
+
+    use super::*;
+
+    const RAW: &[u8] = include_bytes!("../../samples/scene.ss0");
+    const PNG: &[u8] = include_bytes!("../../samples/scene.state.png");
+
+    fn number(bytes: &[u8]) -> Option<u32> {
+        decode_state(bytes).unwrap_err().downcast_ref::<Refused>().map(|refused| refused.number)
+    }
+
+    fn text(bytes: &[u8]) -> String {
+        format!("{:#}", decode_state(bytes).unwrap_err())
+    }
+
+    fn chunk(kind: &[u8; 4], data: &[u8]) -> Vec<u8> {
+        let length = (data.len() as u32).to_be_bytes();
+        [&length, &kind[..], data, &crc(kind, data).to_be_bytes()].concat()
+    }
+
+    fn png_of(chunks: &[Vec<u8>]) -> Vec<u8> {
+        [PNG_SIGNATURE, &chunks.concat()].concat()
+    }
+
+    fn pack(state: &[u8]) -> Vec<u8> {
+        let mut encoder = ZlibEncoder::new(Vec::new(), Compression::fast());
+        encoder.write_all(state).unwrap();
+        encoder.finish().unwrap()
+    }
+
+    #[test]
+    fn parts_lie_where_the_layout_says() {
+        let capture = decode_state(RAW).unwrap();
+        assert_eq!(capture.registers, &RAW[0x400..0x456]);
+        assert_eq!(capture.palette, &RAW[0x800..0xc00]);
+        assert_eq!(capture.oam, &RAW[0xc00..0x1000]);
+        assert_eq!(capture.vram[..0x18000], RAW[0x1000..0x19000]);
+        assert_eq!(capture.vram[0x18000..], [0; 0x8000]);
+        assert_eq!(capture, decode_state(PNG).unwrap());
+        assert_eq!(capture, decode_state(&RAW[..STATE_LEN]).unwrap());
+    }
+
+    #[test]
+    fn every_cut_is_refused() {
+        for len in (0..PNG.len()).step_by(13).chain([PNG.len() - 1]) {
+            assert!(decode_state(&PNG[..len]).is_err(), "PNG of {len} bytes");
+        }
+        for len in (0..STATE_LEN).step_by(4093).chain([1, 3, 4, STATE_LEN - 1]) {
+            assert_eq!(number(&RAW[..len]), Some(2), "state of {len} bytes");
+        }
+    }
+
+    #[test]
+    fn every_changed_bit_of_a_png_is_refused() {
+        for place in (0..PNG.len()).step_by(61) {
+            let mut bytes = PNG.to_vec();
+            bytes[place] ^= 1 << (place % 8);
+            assert!(decode_state(&bytes).is_err(), "byte {place}");
+        }
+    }
+
+    #[test]
+    fn noise_is_answered() {
+        let mut seed = 1u64;
+        let mut next = || {
+            seed = seed.wrapping_mul(6364136223846793005).wrapping_add(1442695040888963407);
+            (seed >> 33) as u8
+        };
+        for len in 0..2000 {
+            let noise: Vec<u8> = (0..len).map(|_| next()).collect();
+            assert!(decode_state(&noise).is_err());
+            // Past the signature, past a chunk's CRC, and into the decompressor.
+            assert!(decode_state(&png_of(std::slice::from_ref(&noise))).is_err());
+            let state = [chunk(b"gbAs", &noise), chunk(b"IEND", &[])];
+            assert!(decode_state(&png_of(&state)).is_err());
+            let packed = [chunk(b"gbAs", &pack(&noise)), chunk(b"IEND", &[])];
+            assert!(decode_state(&png_of(&packed)).is_err());
+        }
+    }
+
+    #[test]
+    fn a_state_that_unpacks_to_another_length_is_refused() {
+        let packed = |state: &[u8]| png_of(&[chunk(b"gbAs", &pack(state)), chunk(b"IEND", &[])]);
+        assert!(decode_state(&packed(&RAW[..STATE_LEN])).is_ok());
+        assert_eq!(number(&packed(&RAW[..STATE_LEN - 1])), Some(2));
+        assert_eq!(number(&packed(&RAW[..STATE_LEN + 1])), Some(2));
+        assert_eq!(number(&packed(&vec![0; 0x400_0000])), Some(2));
+    }
+
+    #[test]
+    fn other_files_are_named() {
+        assert!(text(&png_of(&[chunk(b"IEND", &[])])).contains("no gbAs chunk"));
+        let state = chunk(b"gbAs", &pack(&RAW[..STATE_LEN]));
+        let two = png_of(&[state.clone(), state, chunk(b"IEND", &[])]);
+        assert!(text(&two).contains("two gbAs chunks"));
+        assert!(text(b"PK\x03\x04").contains("starts with 0x04034b50, expected 0x01000007"));
+        assert!(text(&[6, 0, 0, 1]).contains("version 6, expected 7"));
+        let length = [PNG_SIGNATURE, &[0xff; 4], b"gbAs", &[0; 64]].concat();
+        assert!(text(&length).contains("PNG damaged at byte 8"));
+    }
+}

@@ -1,0 +1,388 @@
+//! `ashlarkin frame` as people run it: the built command on real captures, on damaged ones and with bad usage.
+
+use std::fs::{self, File};
+use std::os::unix::fs::symlink;
+use std::os::unix::net::UnixListener;
+use std::path::{Path, PathBuf};
+use std::process::{Command, Output};
+
+const STATE_LEN: usize = 0x61000;
+const FILES: [(&str, usize); 4] =
+    [("vram.bin", 131_072), ("palette.bin", 1024), ("oam.bin", 1024), ("registers.bin", 86)];
+
+/// A folder of its own for each test, empty at the start.
+fn scratch(test: &str) -> PathBuf {
+    let folder = Path::new(env!("CARGO_TARGET_TMPDIR")).join("frame").join(test);
+    let _ = fs::remove_dir_all(&folder);
+    fs::create_dir_all(&folder).unwrap();
+    folder
+}
+
+fn sample(name: &str) -> PathBuf {
+    Path::new(env!("CARGO_MANIFEST_DIR")).join("../samples").join(name)
+}
+
+fn ashlarkin(arguments: &[&str]) -> Output {
+    Command::new(env!("CARGO_BIN_EXE_ashlarkin")).args(arguments).output().unwrap()
+}
+
+fn frame(capture: &Path, output: &Path, options: &[&str]) -> Output {
+    let paths = ["frame", capture.to_str().unwrap(), "-o", output.to_str().unwrap()];
+    ashlarkin(&[&paths[..], options].concat())
+}
+
+fn stderr(output: &Output) -> &str {
+    std::str::from_utf8(&output.stderr).unwrap()
+}
+
+struct Picture {
+    width: usize,
+    height: usize,
+    pixels: Vec<[u8; 3]>,
+}
+
+/// Any 8-bit PNG with three or four channels, the fourth left out.
+fn read_png(path: &Path) -> Picture {
+    let mut reader = png::Decoder::new(File::open(path).unwrap()).read_info().unwrap();
+    let mut bytes = vec![0; reader.output_buffer_size()];
+    let info = reader.next_frame(&mut bytes).unwrap();
+    assert_eq!(info.bit_depth, png::BitDepth::Eight);
+    let samples = info.color_type.samples();
+    assert!(samples == 3 || samples == 4, "{}: {:?}", path.display(), info.color_type);
+    let pixels = bytes.chunks_exact(samples).map(|p| [p[0], p[1], p[2]]).collect();
+    Picture { width: info.width as usize, height: info.height as usize, pixels }
+}
+
+/// Draws a capture that must be drawn.
+fn drawn(capture: &Path, folder: &Path, options: &[&str]) -> Picture {
+    let output = folder.join("drawn.png");
+    let run = frame(capture, &output, options);
+    assert_eq!(run.status.code(), Some(0), "{}", stderr(&run));
+    assert!(run.stdout.is_empty() && run.stderr.is_empty());
+    let picture = read_png(&output);
+    fs::remove_file(output).unwrap();
+    picture
+}
+
+/// Runs a draw that must end in one line that names `path` and has all of `words`, and must write nothing.
+fn refused(capture: &Path, folder: &Path, path: &Path, words: &[&str], options: &[&str]) {
+    let before = names(folder);
+    let run = frame(capture, &folder.join("refused.png"), options);
+    check_refused(&run, path, words);
+    assert_eq!(names(folder), before, "{}", path.display());
+}
+
+fn check_refused(run: &Output, path: &Path, words: &[&str]) {
+    let text = stderr(run);
+    assert_eq!(run.status.code(), Some(1), "{}: {text}", path.display());
+    assert!(run.stdout.is_empty());
+    assert!(text.ends_with('\n') && text.lines().count() == 1, "{text}");
+    assert!(text.starts_with(&format!("{}: ", path.display())), "{text} names {}", path.display());
+    for word in words {
+        assert!(text.contains(word), "{text} has {word}");
+    }
+}
+
+fn names(folder: &Path) -> Vec<PathBuf> {
+    let mut names: Vec<PathBuf> = fs::read_dir(folder).unwrap().map(|e| e.unwrap().path()).collect();
+    names.sort();
+    names
+}
+
+/// Compares with mGBA's frame by `value & 0xf8`; `allowed` says how many steps of 8 a channel may be off a pixel's.
+fn compare(drawn: &Picture, mgba: &Picture, allowed: fn([u8; 3]) -> u8) {
+    assert_eq!((drawn.width, drawn.height), (240, 160));
+    assert_eq!((mgba.width, mgba.height), (240, 160));
+    for (i, (ours, theirs)) in drawn.pixels.iter().zip(&mgba.pixels).enumerate() {
+        let off = (0..3).map(|channel| (ours[channel] >> 3).abs_diff(theirs[channel] >> 3)).max();
+        assert!(off <= Some(allowed(*theirs)), "({}, {}): {ours:?}, mGBA has {theirs:?}", i % 240, i / 240);
+    }
+}
+
+/// Four files of zeros, but for the registers.
+fn write_folder(folder: &Path, registers: &[(usize, u16)]) -> PathBuf {
+    let capture = folder.join("capture");
+    let _ = fs::remove_dir_all(&capture);
+    fs::create_dir(&capture).unwrap();
+    for (name, len) in FILES {
+        fs::write(capture.join(name), vec![0; len]).unwrap();
+    }
+    let mut bytes = [0; 86];
+    for &(offset, value) in registers {
+        bytes[offset..offset + 2].copy_from_slice(&value.to_le_bytes());
+    }
+    fs::write(capture.join("registers.bin"), bytes).unwrap();
+    capture
+}
+
+/// The scene's state as a folder, its video memory of 131,072 bytes.
+fn scene_folder(folder: &Path) -> PathBuf {
+    let state = fs::read(sample("scene.ss0")).unwrap();
+    let capture = write_folder(folder, &[]);
+    let vram = [&state[0x1000..0x19000], &[0; 0x8000]].concat();
+    fs::write(capture.join("vram.bin"), vram).unwrap();
+    fs::write(capture.join("palette.bin"), &state[0x800..0xc00]).unwrap();
+    fs::write(capture.join("oam.bin"), &state[0xc00..0x1000]).unwrap();
+    fs::write(capture.join("registers.bin"), &state[0x400..0x456]).unwrap();
+    capture
+}
+
+#[test]
+fn two_tone_is_mgbas_frame() {
+    let folder = scratch("two_tone");
+    let drawn = drawn(&sample("scene-two-tone.state.png"), &folder, &["--reading", "H"]);
+    compare(&drawn, &read_png(&sample("scene-two-tone.mgba-frame.png")), |_| 0);
+}
+
+#[test]
+fn scene_is_mgbas_frame_but_for_its_blending() {
+    let folder = scratch("scene");
+    let drawn = drawn(&sample("scene.state.png"), &folder, &["--reading", "H"]);
+    // mGBA fills a channel's low three bits from its high ones, except where it blended, which it does in 8 bits.
+    let blended = |pixel: [u8; 3]| pixel.iter().any(|value| value & 7 != value >> 5).into();
+    compare(&drawn, &read_png(&sample("scene.mgba-frame.png")), blended);
+}
+
+#[test]
+fn every_form_of_a_capture_draws_the_same() {
+    let folder = scratch("forms");
+    let raw = drawn(&sample("scene.ss0"), &folder, &[]);
+    let png = drawn(&sample("scene.state.png"), &folder, &[]);
+    assert!(raw.pixels == png.pixels);
+    let capture = scene_folder(&folder);
+    assert!(raw.pixels == drawn(&capture, &folder, &[]).pixels);
+    let vram = fs::read(capture.join("vram.bin")).unwrap();
+    fs::write(capture.join("vram.bin"), &vram[..98_304]).unwrap();
+    assert!(raw.pixels == drawn(&capture, &folder, &[]).pixels);
+}
+
+#[test]
+fn scale_repeats_pixels() {
+    let folder = scratch("scale");
+    let one = drawn(&sample("scene.ss0"), &folder, &["--scale", "1"]);
+    for scale in [2, 16] {
+        let many = drawn(&sample("scene.ss0"), &folder, &["--scale", &scale.to_string()]);
+        assert_eq!((many.width, many.height), (240 * scale, 160 * scale));
+        for (i, pixel) in many.pixels.iter().enumerate() {
+            let (x, y) = (i % many.width / scale, i / many.width / scale);
+            assert_eq!(*pixel, one.pixels[y * 240 + x], "({x}, {y}) at scale {scale}");
+        }
+    }
+}
+
+/// Background 2 or 3 as an affine one of 256x256, each tile one colour: the word of palette entry `tile`.
+fn affine_capture(folder: &Path, number: usize, numbers: [i32; 6]) -> PathBuf {
+    let [x, y, pa, pb, pc, pd] = numbers;
+    let at = 0x20 + 0x10 * (number - 2);
+    let words = [pa, pb, pc, pd, x, x >> 16, y, y >> 16];
+    // Map at 0x4000, wrapped, 256x256.
+    let mut registers = vec![(0, 2 | 0x100 << number), (8 + 2 * number, 0x6800)];
+    registers.extend(words.iter().enumerate().map(|(i, &word)| (at + 2 * i, word as u16)));
+    let capture = write_folder(folder, &registers);
+    let mut vram: Vec<u8> = (0..0x4000).map(|i| (i / 64) as u8).collect();
+    vram.extend((0..1024).map(|i| affine_tile(i % 32, i / 32)));
+    vram.resize(131_072, 0);
+    fs::write(capture.join("vram.bin"), vram).unwrap();
+    let palette: Vec<u8> = (0..512).flat_map(|i: u16| affine_colour(i).to_le_bytes()).collect();
+    fs::write(capture.join("palette.bin"), palette).unwrap();
+    capture
+}
+
+fn affine_tile(x: usize, y: usize) -> u8 {
+    ((x * 7 + y * 91) % 255 + 1) as u8
+}
+
+fn affine_colour(tile: u16) -> u16 {
+    tile.wrapping_mul(123) & 0x7fff
+}
+
+#[test]
+fn references_start_from_the_registers_and_step() {
+    let folder = scratch("references");
+    let numbers = [-54_321, 0x40_1234, 0x120, -0x35, 0x17, 0xe5];
+    let [x, y, pa, pb, pc, pd] = numbers;
+    for (number, reading) in [(2, "R"), (2, "H"), (3, "R"), (3, "H")] {
+        let capture = affine_capture(&folder, number, numbers);
+        let picture = drawn(&capture, &folder, &["--reading", reading]);
+        for (i, pixel) in picture.pixels.iter().enumerate() {
+            let (column, line) = (i as i32 % 240, i as i32 / 240);
+            // The Rust has no step after line 0, so lines 0 and 1 share a reference.
+            let steps = if reading == "R" { (line - 1).max(0) } else { line };
+            let tile_at = |from: i32, by_line: i32, by_column: i32| {
+                ((from + by_line * steps + by_column * column) >> 8).rem_euclid(256) as usize / 8
+            };
+            let colour = affine_colour(affine_tile(tile_at(x, pb, pa), tile_at(y, pd, pc)).into());
+            let expected = [0, 5, 10].map(|shift| (colour >> shift & 31) as u8 * 8);
+            assert_eq!(*pixel, expected, "background {number}, {reading}, ({column}, {line})");
+        }
+    }
+}
+
+#[test]
+fn a_refused_draw_says_number_meaning_and_line() {
+    let folder = scratch("draw_refused");
+    let capture = write_folder(&folder, &[(0, 0x0007)]);
+    let words = ["line 0", "DISPCNT is 0x0007", "forced blank off, mode 6 or 7", "(refusal 4)"];
+    refused(&capture, &folder, &capture, &words, &[]);
+    refused(&capture, &folder, &capture, &words, &["--reading", "H"]);
+
+    let capture = write_folder(&folder, &[(0x54, 17)]);
+    refused(&capture, &folder, &capture, &["BLDY is 0x0011", "(refusal 5)", "--reading H"], &[]);
+    drawn(&capture, &folder, &["--reading", "h"]);
+
+    let capture = write_folder(&folder, &[(0, 0x0087), (0x54, 17)]);
+    let blank = drawn(&capture, &folder, &[]);
+    assert!(blank.pixels.iter().all(|pixel| *pixel == [0xf8; 3]));
+}
+
+#[test]
+fn damaged_folders_are_refused() {
+    let folder = scratch("folders");
+    for (name, len) in FILES {
+        let damaged = |damage: &dyn Fn(&Path), words: &[&str]| {
+            let capture = scene_folder(&folder);
+            damage(&capture.join(name));
+            refused(&capture, &folder, &capture.join(name), words, &[]);
+        };
+        damaged(&|path| fs::remove_file(path).unwrap(), &["No such file", &len.to_string()]);
+        let directory = |path: &Path| {
+            fs::remove_file(path).unwrap();
+            fs::create_dir(path).unwrap();
+        };
+        damaged(&directory, &["Is a directory", &len.to_string()]);
+        for wrong in [0, 1, len - 1, len + 1, 2 * len] {
+            let found = format!("{wrong} bytes, expected {len}");
+            damaged(&|path| fs::write(path, vec![0; wrong]).unwrap(), &[&found, "(refusal 2)"]);
+        }
+        damaged(&|path| fs::write(path, vec![0; 0x100_0001]).unwrap(), &["more than 16777216", "(refusal 2)"]);
+    }
+}
+
+#[test]
+fn damaged_states_are_refused() {
+    let folder = scratch("states");
+    let raw = fs::read(sample("scene.ss0")).unwrap();
+    let png = fs::read(sample("scene.state.png")).unwrap();
+    let capture = folder.join("damaged.ss0");
+    let damaged = |bytes: &[u8], words: &[&str]| {
+        fs::write(&capture, bytes).unwrap();
+        refused(&capture, &folder, &capture, words, &[]);
+    };
+    for len in [0, 1, 3, 4, 0x400, 0x1000, 0x19000, STATE_LEN - 1] {
+        damaged(&raw[..len], &[&format!("{len} bytes, expected {STATE_LEN}"), "(refusal 2)"]);
+    }
+    damaged(&png[..7], &["starts with 0x474e5089"]);
+    for len in [8, 9, 20, 33, 1000, 15_000, 17_700, png.len() - 1] {
+        damaged(&png[..len], &["PNG damaged", "ends inside a chunk"]);
+    }
+    damaged(&[&[0xff], &raw[1..]].concat(), &["version 255, expected 7"]);
+    damaged(&[&raw[..3], &[0], &raw[4..]].concat(), &["0x00000007, expected 0x01000007"]);
+    let screenshot = fs::read(sample("scene.mgba-frame.png")).unwrap();
+    damaged(&screenshot, &["no gbAs chunk"]);
+}
+
+#[test]
+fn a_flipped_bit_of_a_png_state_is_refused() {
+    let folder = scratch("flipped");
+    let png = fs::read(sample("scene.state.png")).unwrap();
+    let kind = png.windows(4).position(|bytes| bytes == b"gbAs").unwrap();
+    let length = u32::from_be_bytes(png[kind - 4..kind].try_into().unwrap()) as usize;
+    let capture = folder.join("flipped.png");
+    for place in [kind + 4 + length, kind + 7 + length, kind + 4, kind + 1000, kind - 5, 41] {
+        let mut bytes = png.clone();
+        bytes[place] ^= 0x10;
+        fs::write(&capture, &bytes).unwrap();
+        refused(&capture, &folder, &capture, &["PNG damaged", "CRC", "expected 0x"], &[]);
+    }
+}
+
+#[test]
+fn what_is_no_capture_is_refused() {
+    let folder = scratch("no_capture");
+    let missing = folder.join("missing.ss0");
+    refused(&missing, &folder, &missing, &["No such file", "expected a folder with vram.bin"], &[]);
+    let directory = folder.join("folder.ss0");
+    fs::create_dir(&directory).unwrap();
+    refused(&directory, &folder, &directory.join("vram.bin"), &["131072 or 98304"], &[]);
+    let endless = Path::new("/dev/zero");
+    refused(endless, &folder, endless, &["starts with 0x00000000"], &[]);
+}
+
+#[test]
+fn an_output_that_cant_be_written_is_refused() {
+    let folder = scratch("output");
+    let state = folder.join("scene.ss0");
+    fs::copy(sample("scene.ss0"), &state).unwrap();
+    let capture = scene_folder(&folder);
+    // In place of a device, which a wrong command would replace.
+    let socket = folder.join("socket");
+    UnixListener::bind(&socket).unwrap();
+    let before = names(&folder);
+    for (from, output, word) in [
+        (&state, folder.join("missing/frame.png"), "No such file"),
+        (&state, capture.clone(), "not a file"),
+        (&state, socket, "not a file"),
+        (&state, folder.join("missing/.."), "no file name"),
+        // The one that fails at the rename.
+        (&state, folder.join("trailing/"), "can't be written"),
+        (&state, state.clone(), "the capture itself"),
+        (&capture, capture.join("oam.bin"), "the capture itself"),
+    ] {
+        check_refused(&frame(from, &output, &[]), &output, &[word, "give -o"]);
+    }
+    assert_eq!(names(&folder), before);
+    assert_eq!(fs::read(&state).unwrap(), fs::read(sample("scene.ss0")).unwrap());
+}
+
+#[test]
+fn an_old_frame_stays_unless_a_new_one_is_drawn() {
+    let folder = scratch("old_frame");
+    let [output, twin, link] = ["frame.png", "twin.png", "link.png"].map(|name| folder.join(name));
+    fs::write(&output, "old").unwrap();
+    fs::hard_link(&output, &twin).unwrap();
+    symlink(&output, &link).unwrap();
+    let capture = write_folder(&folder, &[(0, 7)]);
+    let before = names(&folder);
+    assert_eq!(frame(&capture, &link, &[]).status.code(), Some(1));
+    assert_eq!(fs::read(&output).unwrap(), b"old");
+    assert_eq!(frame(&sample("scene.ss0"), &link, &[]).status.code(), Some(0));
+    assert_eq!(read_png(&output).width, 240);
+    // A frame is a new file, put in place when it is whole; a link stays a link.
+    assert_eq!(fs::read(&twin).unwrap(), b"old");
+    assert_eq!(fs::read_link(&link).unwrap(), output);
+    assert_eq!(names(&folder), before);
+}
+
+#[test]
+fn bad_usage_is_told_apart() {
+    let folder = scratch("usage");
+    let capture = sample("scene.ss0");
+    let output = folder.join("frame.png");
+    let (capture, output) = (capture.to_str().unwrap(), output.to_str().unwrap());
+    let full = ["frame", capture, "-o", output];
+    let mut lines = vec![vec![], vec!["draw"], vec!["frame", capture], vec!["frame", "-o", output]];
+    let options = [["--scale", "0"], ["--scale", "17"], ["--scale", "x"], ["--reading", "X"], ["--jobs", "2"]];
+    lines.extend(options.iter().map(|option| [&full[..], option].concat()));
+    for line in lines {
+        let run = ashlarkin(&line);
+        assert_eq!(run.status.code(), Some(2), "{line:?}");
+        assert!(run.stdout.is_empty() && !run.stderr.is_empty(), "{line:?}");
+    }
+    assert!(names(&folder).is_empty());
+}
+
+#[test]
+fn help_has_examples() {
+    for (line, word) in [
+        (&["--help"][..], "ashlarkin frame samples/scene.ss0 -o frame.png"),
+        (&["frame", "--help"], "ashlarkin frame caps/07 -o frame.png"),
+        (&["frame", "--help"], "Example: --reading H"),
+        (&["frame", "-h"], "--scale <N>"),
+        (&["--version"], concat!("ashlarkin ", env!("CARGO_PKG_VERSION"))),
+    ] {
+        let run = ashlarkin(line);
+        assert_eq!(run.status.code(), Some(0), "{line:?}");
+        let text = String::from_utf8(run.stdout).unwrap();
+        assert!(text.contains(word), "{line:?}: {text}");
+    }
+}

@@ -1,0 +1,223 @@
+//! docs/DIFFERENCES.md, run: for each of its points on drawing the smallest input, and what the oracle gives under R and H.
+
+use ashlarkin_oracle::cases::reset_row;
+use ashlarkin_oracle::*;
+
+const RED: u32 = 0xf80000;
+const WHITE: u32 = 0xf8f8f8;
+const BLACK: u32 = 0;
+
+/// A draw with nothing in it: all memory 0, sprites hidden, the row reset.
+struct Picture {
+    line: u32,
+    references: [i32; 4],
+    vram: Vec<u8>,
+    palette: Vec<u8>,
+    oam: Vec<u8>,
+    registers: Vec<u8>,
+    entries: Vec<u8>,
+}
+
+fn put(bytes: &mut [u8], at: usize, word: u16) {
+    bytes[at..at + 2].copy_from_slice(&word.to_le_bytes());
+}
+
+impl Picture {
+    fn new(dispcnt: u16) -> Picture {
+        let mut picture = Picture {
+            line: 0,
+            references: [0; 4],
+            vram: vec![0; VRAM_LEN],
+            palette: vec![0; PALETTE_LEN],
+            oam: [0x00, 0x02, 0, 0, 0, 0, 0, 0].repeat(128),
+            registers: vec![0; REGISTERS_LEN],
+            entries: reset_row(),
+        };
+        picture.set(0x00, dispcnt);
+        picture.set(0x20, 0x100);
+        // Colour 1 of both halves of the palette is red.
+        put(&mut picture.palette, 0x002, 0x1f);
+        put(&mut picture.palette, 0x202, 0x1f);
+        picture
+    }
+
+    fn set(&mut self, register: usize, word: u16) -> &mut Picture {
+        put(&mut self.registers, register, word);
+        self
+    }
+
+    fn sprite(&mut self, number: usize, words: [u16; 3]) -> &mut Picture {
+        (0..3).for_each(|at| put(&mut self.oam, 8 * number + 2 * at, words[at]));
+        self
+    }
+
+    /// Every dot of every sprite tile has index 1.
+    fn solid_tiles(&mut self) -> &mut Picture {
+        self.vram[0x10000..].fill(0x11);
+        self
+    }
+
+    fn draw(&self, reading: u32) -> Result<Vec<u32>, u32> {
+        let Picture { line, references, vram, palette, oam, registers, .. } = self;
+        let input = Input { reading, line: *line, references: *references, vram, palette, oam, registers };
+        let mut output = [0; OUTPUT_LEN];
+        match Oracle::new().draw(&input, &mut self.entries.clone(), &mut output) {
+            Answer::Number(0) => {
+                Ok(output.chunks_exact(4).map(|b| u32::from_le_bytes([b[0], b[1], b[2], b[3]])).collect())
+            }
+            Answer::Number(number) => Err(number),
+            Answer::Panicked(finding) => panic!("the Rust panicked: {finding}"),
+        }
+    }
+
+    /// The pixel at a column under R and under H.
+    fn pixels(&self, column: usize) -> [u32; 2] {
+        [0, 1].map(|reading| self.draw(reading).expect("an accepted draw")[column])
+    }
+}
+
+#[test]
+fn d01_window_1_walks_window_0s_columns() {
+    let mut p = Picture::new(0x4000);
+    p.set(0x42, 0x00f0).set(0x46, 0x00a0).set(0x48, 0x2000).set(0x50, 0x00a0).set(0x54, 16);
+    assert_eq!(p.pixels(0), [BLACK, WHITE]);
+    p.set(0x40, 0x00f0);
+    assert_eq!(p.pixels(0), [WHITE, WHITE]);
+}
+
+#[test]
+fn d02_weights_above_16() {
+    let mut p = Picture::new(0x0403);
+    put(&mut p.vram, 0, 20);
+    p.set(0x50, 0x2044).set(0x52, 31);
+    assert_eq!(p.pixels(0), [31 << 19, 20 << 19]);
+}
+
+#[test]
+fn d03_evy_above_16() {
+    let mut p = Picture::new(0);
+    p.set(0x50, 0x00a0).set(0x54, 17);
+    assert_eq!(p.draw(0), Err(5));
+    assert_eq!(p.draw(1).map(|row| row[0]), Ok(WHITE));
+}
+
+#[test]
+fn d04_odd_tile_numbers_of_256_colours() {
+    let mut p = Picture::new(0x1000);
+    p.vram[0x10020] = 1;
+    p.sprite(0, [0x2000, 0, 1]);
+    assert_eq!(p.pixels(0), [RED, RED]);
+}
+
+#[test]
+fn d05_a_tall_box_below_line_128() {
+    let mut p = Picture::new(0x1000);
+    p.solid_tiles().sprite(0, [0x0300 | 129, 0xc000, 0]);
+    put(&mut p.oam, 6, 0x100);
+    p.line = 150;
+    assert_eq!(p.pixels(64), [RED, RED]);
+    p.line = 0;
+    assert_eq!(p.pixels(64), [BLACK, BLACK]);
+}
+
+#[test]
+fn d07_the_word_0x8000() {
+    let mut p = Picture::new(0x0403);
+    put(&mut p.palette, 0, 0x1f);
+    put(&mut p.vram, 0, 0x8000);
+    put(&mut p.vram, 2, 0x8001);
+    assert_eq!(p.pixels(0), [RED, RED]);
+    assert_eq!(p.pixels(1), [0x080000, 0x080000]);
+}
+
+#[test]
+fn d08_bitmaps_wrap() {
+    let mut p = Picture::new(0x0403);
+    put(&mut p.vram, 2 * 239, 0x1f);
+    p.references[0] = -0x100;
+    assert_eq!(p.pixels(0), [BLACK, BLACK]);
+    p.set(0x0c, 0x2000);
+    assert_eq!(p.pixels(0), [RED, RED]);
+}
+
+#[test]
+fn d09_the_backdrop_blends_with_itself() {
+    let mut p = Picture::new(0);
+    put(&mut p.palette, 0, 10);
+    p.set(0x50, 0x2060).set(0x52, 0x1010);
+    assert_eq!(p.pixels(0), [20 << 19, 20 << 19]);
+}
+
+#[test]
+fn d10_the_object_window_with_sprites_off() {
+    let mut p = Picture::new(0x8000);
+    p.entries[3] = 2;
+    p.set(0x4a, 0x2000).set(0x50, 0x00a0).set(0x54, 16);
+    assert_eq!(p.pixels(0), [WHITE, WHITE]);
+    assert_eq!(p.pixels(1), [BLACK, BLACK]);
+}
+
+#[test]
+fn d11_reads_past_a_regions_end() {
+    let mut p = Picture::new(0x0100);
+    p.set(0x08, 0x008c);
+    put(&mut p.vram, 0, 0x100);
+    p.vram[0x10000] = 1;
+    assert_eq!(p.pixels(0), [RED, RED]);
+    let mut p = Picture::new(0x1000);
+    p.line = 4;
+    p.vram[0x18000] = 1;
+    p.sprite(0, [0x2000, 0, 1023]);
+    assert_eq!(p.pixels(0), [RED, RED]);
+}
+
+#[test]
+fn d12_no_limit_of_sprites_a_line() {
+    let mut p = Picture::new(0x1000);
+    p.solid_tiles();
+    (0..127).for_each(|number| _ = p.sprite(number, [0x0000, 0xc000, 0]));
+    p.sprite(127, [0x0000, 100, 0]);
+    assert_eq!(p.pixels(100), [RED, RED]);
+}
+
+#[test]
+fn d13_blacks_rounding() {
+    let mut p = Picture::new(0);
+    put(&mut p.palette, 0, 31);
+    p.set(0x50, 0x00e0).set(0x54, 1);
+    assert_eq!(p.pixels(0), [29 << 19, 29 << 19]);
+}
+
+#[test]
+fn d14_shape_3_is_8_by_8() {
+    let mut p = Picture::new(0x1000);
+    p.solid_tiles().sprite(0, [0xc000, 0xc000, 0]);
+    assert_eq!(p.pixels(7), [RED, RED]);
+    assert_eq!(p.pixels(8), [BLACK, BLACK]);
+}
+
+#[test]
+fn d15_sprites_of_mode_3() {
+    let mut p = Picture::new(0x1000);
+    p.solid_tiles().sprite(0, [0x0c00, 0, 0]);
+    assert_eq!(p.pixels(0), [BLACK, BLACK]);
+}
+
+#[test]
+fn d16_white_on_a_semi_transparent_sprite() {
+    let mut p = Picture::new(0x1000);
+    p.solid_tiles().sprite(0, [0x0400, 0, 0]).set(0x50, 0x0080).set(0x54, 16);
+    assert_eq!(p.pixels(0), [RED, RED]);
+    p.set(0x50, 0x0090);
+    assert_eq!(p.pixels(0), [WHITE, WHITE]);
+}
+
+#[test]
+fn d17_references_and_entries_out_of_the_domain() {
+    let mut p = Picture::new(0);
+    p.references[3] = 1 << 28;
+    assert_eq!((p.draw(0), p.draw(1)), (Err(6), Err(6)));
+    let mut p = Picture::new(0);
+    p.entries[4 * 239 + 2] = 5;
+    assert_eq!((p.draw(0), p.draw(1)), (Err(7), Err(7)));
+}
