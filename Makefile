@@ -13,12 +13,13 @@ run: setup
 	@for sample in $(SAMPLES); do \
 		name=$${sample%.state.png}; \
 		$(BUILT)/ashlarkin frame samples/$$sample --reading H --scale 2 -o $(FRAMES)/$$name.png || exit 1; \
-		echo "$(FRAMES)/$$name.png"; \
+		echo "drawn by the oracle, reading H: $(FRAMES)/$$name.png"; \
 	done
 
 # `rt ci` stands last: its last line is the verdict, and nothing before it may fail.
 test: setup host-tests oracle-tests c-tests
 	@rt fmt --check
+	@tools/contracts
 	@rt ci
 
 setup:

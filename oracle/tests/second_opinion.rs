@@ -61,6 +61,7 @@ fn difference(oracle: &[Given], model: &[Given]) -> Option<String> {
 fn compare(seed: u64, count: u64) -> bool {
     let (mut cases, mut oracle) = (Cases::new(seed), Kept::default());
     let (mut draws, mut numbers, mut kinds) = (0u64, [0u64; 8], [0u64; 4]);
+    let start = Instant::now();
     for index in 0..count {
         let case = cases.case(index);
         let expected = by_oracle(&mut oracle, &case);
@@ -79,7 +80,8 @@ fn compare(seed: u64, count: u64) -> bool {
             return false;
         }
     }
-    println!("{draws} draws of {count} cases with seed {seed}: no difference");
+    let rate = draws as f64 / start.elapsed().as_secs_f64();
+    println!("{draws} draws of {count} cases with seed {seed}: no difference, {rate:.0} draws a second on both sides");
     for (kind, draws) in [Kind::AcceptedR, Kind::AcceptedH, Kind::Faulty, Kind::Chain].iter().zip(kinds) {
         println!("  {kind:?}: {draws} draws");
     }
