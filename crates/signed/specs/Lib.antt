@@ -1,0 +1,2 @@
+-- What signed numbers are. Assumes nothing.
+pub mod Signed
