@@ -1,0 +1,2 @@
+-- The laws of reads. Assumes nothing.
+pub mod Laws

@@ -1,0 +1,149 @@
+-- Laws of registers. No contract cites this file. Assumes nothing.
+-- What holds of a field's bits, as mode w < 8 or screenBlock (screenBaseBlock w) ≤ 0xf800, needs no law: `omega` reads it.
+use Prim.Native.Nat.{ℕ, zero, suc, _+_, _≤_, _<_}
+use native.Mathlib.Nat.{le-refl, eq-zero-or-pos}
+use native.Mathlib.Omega.{arith}
+use mathlib.Core.Logic.{_⊎_, inl, inr, ⊎-elim}
+use mathlib.Core.Path.{_≡_, refl}
+use mathlib.Core.Bool.{Bool, true, false, _||_, _&&_, or-false, and-false, and-eq-true-iff}
+use lib.Dec.{leb, ltb}
+use lib.ListN.{getD}
+use borrow.Author.Tests.{ltb-true, ltb-false, leb-true, lt-ltb, le-ltb, le-leb, lt-leb}
+use Rattle.bits.specs.Bits.{bits, bit}
+use Rattle.memory.proofs.Laws.{split}
+use Rattle.regs.specs.Display.{enableBg}
+use Rattle.regs.specs.Background.{regularWidth, regularHeight}
+use Rattle.regs.specs.Windows.{farEdge, inside, permits, everything}
+use Rattle.regs.specs.Layers.{backgroundLayer, layerBit}
+use Rattle.regs.specs.Reading.{counted}
+use Rattle.regs.specs.declared.layer.RenderLayerKind.{RenderLayerKind}
+use Rattle.regs.specs.declared.layer.RenderLayerKind.the-variants.{
+  Backdrop,
+  Background0,
+  Background1,
+  Background2,
+  Background3,
+  Objects,
+}
+use Rattle.regs.specs.declared.reading.Reading.{Reading}
+use Rattle.regs.specs.declared.reading.Reading.the-variants.{R, H}
+
+-- Background bg is on by bit 8 + bg.
+pub at-enableBg : (w bg : ℕ) → bg < 4 → getD (enableBg w) bg false ≡ bit (8 + bg) w
+at-enableBg w zero h = refl
+at-enableBg w (suc zero) h = refl
+at-enableBg w (suc (suc zero)) h = refl
+at-enableBg w (suc (suc (suc zero))) h = refl
+at-enableBg w (suc (suc (suc (suc bg)))) h = absurd (omega arith)
+
+-- A regular background is 256 or 512 wide.
+pub regularWidth-cases : (size : ℕ) → (regularWidth size ≡ 256) ⊎ (regularWidth size ≡ 512)
+regularWidth-cases size = ⊎-elim (λ e. inl (omega arith)) (λ e. inr (omega arith)) (eq-zero-or-pos (bits 0 0 size))
+
+-- A regular background is 256 or 512 high.
+pub regularHeight-cases : (size : ℕ) → (regularHeight size ≡ 256) ⊎ (regularHeight size ≡ 512)
+regularHeight-cases size = ⊎-elim (λ e. inl (omega arith)) (λ e. inr (omega arith)) (eq-zero-or-pos (bits 1 1 size))
+
+-- A disjunction that fails has its first part fail.
+or-left : (a b : Bool) → (a || b) ≡ false → a ≡ false
+or-left true b e = e
+or-left false b e = refl
+
+-- A conjunction fails where its parts exclude each other.
+and-apart : (a b : Bool) → (a ≡ true → b ≡ true → ⊥) → (a && b) ≡ false
+and-apart true true h = absurd (h refl refl)
+and-apart true false h = refl
+and-apart false b h = refl
+
+-- A far edge lies on the screen.
+pub farEdge-bound : (screen near far : ℕ) → farEdge screen near far ≤ screen
+unfolding farEdge
+farEdge-bound screen near far =
+    split (λ (edge : ℕ). edge ≤ screen) (ltb screen far || ltb far near)
+    (λ t. le-refl screen)
+    (λ t. ltb-false screen far (or-left (ltb screen far) (ltb far near) t))
+
+-- Where the edges are equal, the far one is not past the near one.
+pub farEdge-same : (screen edge : ℕ) → farEdge screen edge edge ≤ edge
+unfolding farEdge
+farEdge-same screen edge =
+    simp (le-ltb edge edge (le-refl edge), or-false)
+    (split (λ (far : ℕ). far ≤ edge) (ltb screen edge) (λ t. omega (arith, ltb-true screen edge t)) (λ t. le-refl edge))
+
+module _ (screen near far at : ℕ) where
+  -- What lies from the near edge to the far one is inside.
+  pub inside-true : near ≤ at → at < farEdge screen near far → inside screen near far at ≡ true
+  inside-true after before = simp (le-leb _ _ after, lt-ltb _ _ before)
+
+  -- What lies before the near edge is not.
+  pub inside-before : at < near → inside screen near far at ≡ false
+  inside-before before = simp (lt-leb _ _ before)
+
+  -- What lies from the far edge on is not.
+  pub inside-past : farEdge screen near far ≤ at → inside screen near far at ≡ false
+  inside-past past = simp (le-ltb _ _ past, and-false)
+
+  -- Where the far edge is not past the near one, nothing is.
+  pub inside-none : farEdge screen near far ≤ near → inside screen near far at ≡ false
+  inside-none none =
+      and-apart (leb near at) (ltb at (farEdge screen near far))
+      (λ after before. omega (arith, leb-true near at after, ltb-true at (farEdge screen near far) before))
+
+  -- What is inside lies from the near edge to the far one.
+  pub inside-edges : inside screen near far at ≡ true → (near ≤ at) × (at < farEdge screen near far)
+  inside-edges e =
+      let both = and-eq-true-iff _ _ .0 e in
+      (leb-true near at (both .0), ltb-true at (farEdge screen near far) (both .1))
+
+  -- What is inside lies on the screen.
+  pub inside-bound : inside screen near far at ≡ true → at < screen
+  inside-bound e = omega (arith, inside-edges e .1, farEdge-bound screen near far)
+
+-- Equal edges make nothing.
+pub inside-same : (screen edge at : ℕ) → inside screen edge edge at ≡ false
+inside-same screen edge at = inside-none screen edge edge at (farEdge-same screen edge)
+
+-- Everything is permitted.
+pub permits-everything : (n : ℕ) → n < 6 → permits everything n ≡ true
+permits-everything zero h = refl
+permits-everything (suc zero) h = refl
+permits-everything (suc (suc zero)) h = refl
+permits-everything (suc (suc (suc zero))) h = refl
+permits-everything (suc (suc (suc (suc zero)))) h = refl
+permits-everything (suc (suc (suc (suc (suc zero))))) h = refl
+permits-everything (suc (suc (suc (suc (suc (suc n)))))) h = absurd (omega arith)
+
+-- A background's bit is its number.
+pub layerBit-background : (bg : ℕ) → bg < 4 → layerBit (backgroundLayer bg) ≡ bg
+unfolding backgroundLayer
+layerBit-background zero h = refl
+layerBit-background (suc zero) h = refl
+layerBit-background (suc (suc zero)) h = refl
+layerBit-background (suc (suc (suc zero))) h = refl
+layerBit-background (suc (suc (suc (suc bg)))) h = absurd (omega arith)
+
+-- A layer's bit is one of six.
+pub layerBit-bound : (kind : RenderLayerKind) → layerBit kind < 6
+layerBit-bound Backdrop = omega arith
+layerBit-bound Background3 = omega arith
+layerBit-bound Background2 = omega arith
+layerBit-bound Background1 = omega arith
+layerBit-bound Background0 = omega arith
+layerBit-bound Objects = omega arith
+
+-- A weight never counts for more than it is.
+pub counted-bound : (reading : Reading) (weight : ℕ) → counted reading weight ≤ weight
+unfolding counted
+counted-bound R weight = omega arith
+counted-bound H weight = omega arith
+
+-- H counts a weight as 16 at most.
+pub counted-cap : (weight : ℕ) → counted H weight ≤ 16
+unfolding counted
+counted-cap weight = omega arith
+
+-- Weights to 16 count as they are in both readings.
+pub counted-small : (reading : Reading) (weight : ℕ) → weight ≤ 16 → counted reading weight ≡ weight
+unfolding counted
+counted-small R weight small = refl
+counted-small H weight small = omega arith

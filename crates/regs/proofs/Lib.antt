@@ -1,0 +1,2 @@
+-- The laws of registers. Assumes nothing.
+pub mod Laws
