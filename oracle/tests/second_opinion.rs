@@ -6,8 +6,8 @@
 use std::process::ExitCode;
 use std::time::Instant;
 
-use ashlarkin_oracle::cases::{Case, Cases, Kept, Kind, step};
-use ashlarkin_oracle::{Answer, Oracle};
+use ashlarkin_oracle::cases::{Alone, Case, Cases, Kept, Kind, reset_row, step};
+use ashlarkin_oracle::{Answer, OUTPUT_LEN, Oracle};
 
 mod model;
 use model::Mutant;
@@ -86,6 +86,24 @@ fn compare(seed: u64, count: u64) -> bool {
         println!("  {kind:?}: {draws} draws");
     }
     println!("  by number 0 to 7: {numbers:?}");
+    true
+}
+
+/// Compares draws of each kind of background alone.
+fn compare_alone(seed: u64, count: u64) -> bool {
+    let (mut cases, mut oracle) = (Cases::new(seed), Kept::default());
+    for kind in Alone::ALL {
+        for index in 0..count {
+            let (draw, _) = cases.alone(index, kind);
+            let case =
+                Case { kind: Kind::AcceptedR, draws: vec![draw], entries: reset_row(), output: vec![0; OUTPUT_LEN] };
+            if let Some(text) = difference(&by_oracle(&mut oracle, &case), &by_model(None, &case)) {
+                println!("seed {seed} {kind:?} alone, line {index}: {text}");
+                return false;
+            }
+        }
+    }
+    println!("{count} lines of each kind of background alone with seed {seed}: no difference");
     true
 }
 
@@ -169,7 +187,7 @@ fn option(name: &str, default: u64) -> u64 {
 
 fn main() -> ExitCode {
     let (seed, count) = (option("--seed", 1), option("--cases", 100_000));
-    let same = compare(seed, count) && compare_small(seed, count);
+    let same = compare(seed, count) && compare_alone(seed, count / 5) && compare_small(seed, count);
     speed(seed, count.min(20_000));
     if same && mutants() { ExitCode::SUCCESS } else { ExitCode::FAILURE }
 }

@@ -39,6 +39,31 @@ impl Kind {
     }
 }
 
+/// A kind of background, for draws that show it alone.
+#[derive(Clone, Copy, Debug, PartialEq, Eq)]
+pub enum Alone {
+    Regular,
+    Affine,
+    Mode3,
+    Mode4,
+    Mode5,
+}
+
+impl Alone {
+    pub const ALL: [Alone; 5] = [Alone::Regular, Alone::Affine, Alone::Mode3, Alone::Mode4, Alone::Mode5];
+
+    /// The modes and backgrounds of this kind.
+    fn places(self) -> &'static [(u16, usize)] {
+        match self {
+            Alone::Regular => &[(0, 0), (0, 1), (0, 2), (0, 3), (1, 0), (1, 1)],
+            Alone::Affine => &[(1, 2), (2, 2), (2, 3)],
+            Alone::Mode3 => &[(3, 2)],
+            Alone::Mode4 => &[(4, 2)],
+            Alone::Mode5 => &[(5, 2)],
+        }
+    }
+}
+
 /// One draw of a case, with buffers of its own but for video memory, which neighbours share.
 #[derive(Clone)]
 pub struct Draw {
@@ -93,11 +118,7 @@ impl Cases {
 
     /// The case of this index.
     pub fn case(&mut self, index: u64) -> Case {
-        let scene_number = index / SCENE_CASES;
-        if scene_number != self.scene_number {
-            self.scene = Scene::new(self.seed, scene_number);
-            self.scene_number = scene_number;
-        }
+        self.enter(index);
         let random = &mut Random::new(self.seed, index);
         let kind = Kind::of(index);
         let mut case = Case {
@@ -126,6 +147,27 @@ impl Cases {
             }
         }
         case
+    }
+
+    /// An accepted draw that shows one background of a kind and nothing else: no sprites, windows or effects. With its number.
+    pub fn alone(&mut self, index: u64, kind: Alone) -> (Draw, usize) {
+        self.enter(index);
+        let random = &mut Random::new(self.seed ^ 0xa10e, index);
+        let mut draw = self.accepted(random, 0);
+        let (mode, bg) = random.pick(kind.places());
+        let dispcnt = mode | 0x10 * random.below(2) as u16 | 0x100 << bg;
+        draw.registers[0..2].copy_from_slice(&dispcnt.to_le_bytes());
+        draw.registers[0x50..0x52].fill(0);
+        (draw, bg)
+    }
+
+    /// Makes the scene of an index the current one.
+    fn enter(&mut self, index: u64) {
+        let scene_number = index / SCENE_CASES;
+        if scene_number != self.scene_number {
+            self.scene = Scene::new(self.seed, scene_number);
+            self.scene_number = scene_number;
+        }
     }
 
     fn accepted(&self, random: &mut Random, reading: u32) -> Draw {
