@@ -64,5 +64,6 @@ paletteBank-bound BPP8 bank small = omega arith
 pub tilePixel-bound : (vram : List ℕ) → Bytes vram → (addr x y : ℕ) (format : PixelFormat) →
     tilePixel vram addr x y format < colours format
 unfolding tilePixel
-tilePixel-bound vram small addr x y BPP4 = split (λ (p : ℕ). p < 16) (eqb (x % 2) 0) (λ t. omega arith) (λ t. omega arith)
+tilePixel-bound vram small addr x y BPP4 =
+    split (λ (p : ℕ). p < 16) (eqb (x % 2) 0) (λ t. omega arith) (λ t. omega arith)
 tilePixel-bound vram small addr x y BPP8 = small (addr + 8 * y + x) .fits

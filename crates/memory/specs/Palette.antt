@@ -7,7 +7,7 @@ use Rattle.bits.specs.Bits.{bits}
 use Rattle.rgb15.specs.Colour.{transparent}
 use Rattle.memory.specs.Memory.{half}
 
--- Index 0 is transparent; else the halfword at 2 * index + 32 * bank (plus an offset: 0x200 for sprites), bit 15 cleared
+-- Index 0 is transparent; else the halfword at 2 * index + 32 * bank (plus offset 0x200 for sprites), bit 15 cleared
 -- (LCD Color Palettes).
 unfoldable pub paletteColor : List ℕ → ℕ → ℕ → ℕ → ℕ
 paletteColor palette offset index bank =

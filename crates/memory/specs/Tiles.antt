@@ -28,7 +28,7 @@ paletteBank BPP8 bank = 0
 abbrev pub halfOf : ℕ → ℕ → ℕ
 halfOf pair x = cond (eqb (x % 2) 0) (bits 3 0 pair) (bits 7 4 pair)
 
--- The pixel at column x and row y of the tile at addr: two pixels a byte and four bytes a row, or one and eight (Character Data).
+-- The pixel at column x and row y of the tile at addr: a row is four bytes of two pixels, or eight of one (Character Data).
 unfoldable pub tilePixel : List ℕ → ℕ → ℕ → ℕ → PixelFormat → ℕ
 tilePixel vram addr x y BPP4 = halfOf (byte vram (addr + 4 * y + x / 2)) x
 tilePixel vram addr x y BPP8 = byte vram (addr + 8 * y + x)

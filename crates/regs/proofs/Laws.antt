@@ -1,5 +1,5 @@
 -- Laws of registers. No contract cites this file. Assumes nothing.
--- What holds of a field's bits, as mode w < 8 or screenBlock (screenBaseBlock w) ≤ 0xf800, needs no law: `omega` reads it.
+-- What holds of a field's bits, as mode w < 8 or charBlock (characterBaseBlock w) ≤ 0xc000, `omega` reads with no law.
 use Prim.Native.Nat.{ℕ, zero, suc, _+_, _≤_, _<_}
 use native.Mathlib.Nat.{le-refl, eq-zero-or-pos}
 use native.Mathlib.Omega.{arith}

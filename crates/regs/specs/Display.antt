@@ -1,4 +1,4 @@
--- Display control, by its word (01, "Backgrounds", "Sprites", "Windows and blending"; GBATEK, "LCD I/O Display Control").
+-- Display control, by its word (01, "Backgrounds" to "Windows and blending"; GBATEK, "LCD I/O Display Control").
 -- Assumes nothing.
 use Prim.Native.Nat.{ℕ}
 use mathlib.Core.Path.{_≡_}

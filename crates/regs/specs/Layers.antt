@@ -1,4 +1,4 @@
--- Layers, and whether a layer is a target of a blend (01, "Windows and blending"; GBATEK, "LCD I/O Color Special Effects").
+-- Layers, and which are targets of a blend (01, "Windows and blending"; GBATEK, "LCD I/O Color Special Effects").
 -- Assumes nothing.
 use Prim.Native.Nat.{ℕ}
 use mathlib.Core.Bool.{Bool}
@@ -6,7 +6,14 @@ use mathlib.Core.List.{[], _∷_}
 use lib.ListN.{getD}
 use Rattle.bits.specs.Bits.{bit}
 use Rattle.regs.specs.declared.layer.RenderLayerKind.{RenderLayerKind}
-use Rattle.regs.specs.declared.layer.RenderLayerKind.the-variants.{Background0, Background1, Background2, Background3, Objects, Backdrop}
+use Rattle.regs.specs.declared.layer.RenderLayerKind.the-variants.{
+  Background0,
+  Background1,
+  Background2,
+  Background3,
+  Objects,
+  Backdrop,
+}
 
 -- The layer of background 0, 1, 2 or 3.
 unfoldable pub backgroundLayer : ℕ → RenderLayerKind

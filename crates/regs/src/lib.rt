@@ -1,5 +1,4 @@
-// Registers decoded to values (gpu/regs.rs). The windows, the layers and the reading have files of their own, and so have
-// the registers' places in the lent bytes.
+// Registers decoded to values (gpu/regs.rs); windows, layers, the reading and the lent bytes have files of their own.
 ghost use mathlib.Core.Path.{_≡_};
 ghost use Prim.Native.Nat.{_<_};
 ghost use Rattle.bits.specs.Bits.{bits};

@@ -1,4 +1,4 @@
--- regs::reading::Reading::counted meets its contract: each reading's arm is the clause of counted for it, and H's two arms are those of min.
+-- regs::reading::Reading::counted meets its contract: each arm is the clause of counted for its reading.
 -- Assumes nothing.
 use borrow.Author.Needs.{needs}
 use Rattle.regs.specs.Reading.{counted}
