@@ -1,12 +1,16 @@
 -- The examples that document 01 marks P, as one table under a single statement (01, "Checked examples"). Assumes nothing.
 use mathlib.Core.Path.{_≡_, refl}
-use mathlib.Core.Bool.{false}
+use mathlib.Core.Bool.{true, false}
+use mathlib.Core.List.{[], _∷_}
 use lib.Dec.{leb}
 use Rattle.rows.specs.Tab.{tab}
-use Rattle.rgb15.specs.Colour.{blendChannel}
+use Rattle.rgb15.specs.Colour.{toRgb24, isTransparent, blendChannel}
+use Rattle.memory.specs.Memory.{half}
 use Rattle.regs.specs.declared.reading.Reading.the-variants.{R, H}
 use Rattle.regs.specs.Reading.{counted}
 use Rattle.regs.specs.Windows.{farEdge, inColumns}
+use Rattle.background.specs.Regular.{regularX, regularY, mapBlock, mapOffset}
+use Rattle.background.specs.Bitmap.{bitmapPixel}
 
 -- Every example, in the document's order.
 pub record Table : Type 0 where
@@ -19,13 +23,21 @@ pub record Table : Type 0 where
   -- Channel 20, EVA 31, EVB 0, other 0: R 31, H 20.
   pub weights-R : blendChannel 20 0 (counted R 31) (counted R 0) ≡ 31
   pub weights-H : blendChannel 20 0 (counted H 31) (counted H 0) ≡ 20
+  -- 512x512, both offsets 255: column 1, line 1 is block 3, map offset 0; column 0, line 0 is block 0, offset 2,046.
+  pub block-far : mapBlock 512 (regularX 0xc000 255 1) (regularY 0xc000 255 1) ≡ 3
+  pub offset-far : mapOffset (regularX 0xc000 255 1) (regularY 0xc000 255 1) ≡ 0
+  pub block-near : mapBlock 512 (regularX 0xc000 255 0) (regularY 0xc000 255 0) ≡ 0
+  pub offset-near : mapOffset (regularX 0xc000 255 0) (regularY 0xc000 255 0) ≡ 2046
+  -- Mode 3 word 0x8000 is transparent; 0x8001 shows 0x080000.
+  pub word-transparent : isTransparent (bitmapPixel (0x00 ∷ 0x80 ∷ []) [] 3 0 240 0 0) ≡ true
+  pub word-shown : toRgb24 (bitmapPixel (0x01 ∷ 0x80 ∷ []) [] 3 0 240 0 0) ≡ 0x080000
   -- Window edges (10, 5): columns 10 to 239; (10, 10) and (250, 5): none.
   pub crossed : tab (inColumns 10 5) 240 ≡ tab (leb 10) 240
   pub equal : tab (inColumns 10 10) 240 ≡ tab (λ _. false) 240
   pub beyond : tab (inColumns 250 5) 240 ≡ tab (λ _. false) 240
 
 pub table : Table
-unfolding blendChannel counted farEdge tab
+unfolding blendChannel counted farEdge tab half bitmapPixel
 table = record {
   halves = refl;
   capped = refl;
@@ -33,6 +45,12 @@ table = record {
   whiter = refl;
   weights-R = refl;
   weights-H = refl;
+  block-far = refl;
+  offset-far = refl;
+  block-near = refl;
+  offset-near = refl;
+  word-transparent = refl;
+  word-shown = refl;
   crossed = refl;
   equal = refl;
   beyond = refl;

@@ -1,0 +1,5 @@
+-- The laws of backgrounds. Assumes nothing.
+pub mod Points
+pub mod Maps
+pub mod Lines
+pub mod Modes

@@ -1,0 +1,91 @@
+-- Laws of points. No contract cites this file. Assumes nothing.
+use mathlib.Core.Path.{_≡_, refl, sym, ap, _∙_}
+use mathlib.Core.Bool.{Bool, true, false, not, cond}
+use lib.Dec.{eqb}
+use Prim.Native.Nat.{ℕ, zero, suc, _-_, _*_, _^_, _≤_, _<_}
+use mathlib.Core.List.{List}
+use native.Mathlib.Nat.{mod-eq-of-lt, mul-le-mul}
+use native.Mathlib.Omega.{arith}
+use lib.IntN.{ℤ, pos, subℕ, _+ℤ_, _*ℤ_}
+use borrow.Author.Tests.{not-true, not-false}
+use Rattle.rgb15.specs.Colour.{transparent}
+use Rattle.signed.specs.Signed.{signed16, down256, wrapped}
+use Rattle.signed.proofs.Difference.{up, subℕ-view}
+use Rattle.regs.specs.Background.{BgControlOf, charBlock, screenBlock}
+use Rattle.regs.specs.declared.BgControl.{BgControl}
+use Rattle.background.specs.Point.{transformBgPoint, shows, pointColor, coordinate, Side}
+use Rattle.background.specs.Bitmap.{BitmapViewPort, bitmapStart, bitmapPixel, bitmapColor}
+use Rattle.background.specs.declared.render.ViewPort.{ViewPort}
+use Rattle.background.specs.Affine.{affineSide, affinePixel, affineColor}
+
+-- A coordinate inside is wrapped to itself.
+pub wrapped-inside : (q side : ℕ) → 0x1e0000 ≤ q → q - 0x1e0000 < side → wrapped (coordinate q) side ≡ q - 0x1e0000
+unfolding wrapped
+wrapped-inside q side from below =
+    ap (λ (z : ℤ). wrapped z side) (subℕ-view q 0x1e0000 (up (q - 0x1e0000) (omega arith))) ∙ mod-eq-of-lt below
+
+-- No side is longer than 1024.
+pub affineSide-bound : (size : ℕ) → size < 4 → affineSide size ≤ 1024
+affineSide-bound zero h = omega arith
+affineSide-bound (suc zero) h = omega arith
+affineSide-bound (suc (suc zero)) h = omega arith
+affineSide-bound (suc (suc (suc zero))) h = omega arith
+affineSide-bound (suc (suc (suc (suc size)))) h = omega arith
+
+-- The rows above a pixel of a bitmap.
+pub row-bound : (w y : ℕ) → w ≤ 240 → y < 160 → w * y ≤ 240 * 159
+row-bound w y w≤ y< = let y≤ : y ≤ 159 = omega arith in mul-le-mul w≤ y≤
+
+module _ (wraparound : Bool) (w h : ℕ) (pixel : ℕ → ℕ → ℕ) (x y : ℤ) {t : Bool} (test : t ≡ shows wraparound w h x y) where
+  -- A point that shows nothing is transparent.
+  pub pointColor-hidden : not t ≡ true → transparent ≡ pointColor wraparound w h pixel x y
+  unfolding pointColor
+  pointColor-hidden hidden = rw (sym test ∙ not-true t hidden)
+
+  -- A point that shows its pixel has the colour of the pixel at the point wrapped.
+  pub pointColor-shown : {c i j : ℕ} → not t ≡ false → i ≡ wrapped x w → j ≡ wrapped y h → c ≡ pixel i j
+      → c ≡ pointColor wraparound w h pixel x y
+  unfolding pointColor
+  pointColor-shown shown across down color = rw (sym test ∙ not-false t shown) (cc)
+
+-- What a bitmap is drawn with has sides that divide the bias, and none longer than the screen's.
+sides : (t : Bool) → (cond t 160 240 ≤ 240) × Side (cond t 160 240) × (cond t 128 160 ≤ 160) × Side (cond t 128 160)
+sides true = (omega arith, (omega arith, refl), omega arith, (omega arith, refl))
+sides false = (omega arith, (omega arith, refl), omega arith, (omega arith, refl))
+
+pub bitmapViewPort-sides : {mode : ℕ} {wraparound : Bool} {v : ViewPort} → BitmapViewPort mode wraparound v →
+    (v .w ≤ 240) × Side (v .w) × (v .h ≤ 160) × Side (v .h)
+bitmapViewPort-sides {mode} e = rw (e .w-is, e .h-is) (sides (eqb mode 5))
+
+-- ---- a column's colour, as it is made
+
+-- A coordinate of its point, from a lifted reference number and a lifted step.
+point-is : (a b step column q : ℕ) → signed16 step ≡ subℕ b (2 ^ 15) →
+    down256 (subℕ a (2 ^ 28) +ℤ pos column *ℤ subℕ b (2 ^ 15)) ≡ coordinate q →
+    transformBgPoint (subℕ a (2 ^ 28)) step column ≡ coordinate q
+unfolding transformBgPoint
+point-is a b step column q step-is q-is = ap (λ (z : ℤ). down256 (subℕ a (2 ^ 28) +ℤ pos column *ℤ z)) step-is ∙ q-is
+
+module _ (vram palette : List ℕ) (control rx ry pa pc dx dy column x y : ℕ)
+  (pa-is : signed16 pa ≡ subℕ dx (2 ^ 15)) (pc-is : signed16 pc ≡ subℕ dy (2 ^ 15))
+  (x-is : down256 (subℕ rx (2 ^ 28) +ℤ pos column *ℤ subℕ dx (2 ^ 15)) ≡ coordinate x)
+  (y-is : down256 (subℕ ry (2 ^ 28) +ℤ pos column *ℤ subℕ dy (2 ^ 15)) ≡ coordinate y)
+  {b : BgControl} (control-is : BgControlOf control b) where
+
+  -- Of an affine background.
+  pub affineColor-is : {side screen tiles c : ℕ} →
+      side ≡ affineSide (b .size) → screen ≡ screenBlock (b .«screen_base_block») → tiles ≡ charBlock (b .«character_base_block») →
+      c ≡ pointColor (b .«affine_wraparound») side side (affinePixel vram palette screen tiles side) (coordinate x) (coordinate y) →
+      c ≡ affineColor vram palette control (subℕ rx (2 ^ 28)) (subℕ ry (2 ^ 28)) pa pc column
+  unfolding affineColor
+  affineColor-is side-is screen-is tiles-is color-is =
+      cc (point-is rx dx pa column x pa-is x-is, point-is ry dy pc column y pc-is y-is)
+
+  -- Of a bitmap.
+  pub bitmapColor-is : (mode frame : ℕ) {v : ViewPort} {start c : ℕ} →
+      BitmapViewPort mode (b .«affine_wraparound») v → start ≡ bitmapStart mode frame →
+      c ≡ pointColor (v .wraparound) (v .w) (v .h) (bitmapPixel vram palette mode start (v .w)) (coordinate x) (coordinate y) →
+      c ≡ bitmapColor vram palette mode frame control (subℕ rx (2 ^ 28)) (subℕ ry (2 ^ 28)) pa pc column
+  unfolding bitmapColor
+  bitmapColor-is mode frame viewport-is start-is color-is =
+      cc (point-is rx dx pa column x pa-is x-is, point-is ry dy pc column y pc-is y-is)

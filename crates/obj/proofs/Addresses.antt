@@ -1,0 +1,43 @@
+-- Laws of a sprite's tiles: their addresses lie in video memory. No contract cites this file. Assumes nothing.
+use Prim.Native.Nat.{ℕ, _+_, _*_, _/_, _%_, _≤_, _<_}
+use native.Mathlib.Nat.{mul-le-mul}
+use native.Mathlib.Omega.{arith}
+use mathlib.Core.Path.{_≡_, ap, ap₂, _∙_}
+use mathlib.Core.List.{List}
+use Rattle.memory.specs.Palette.{paletteColor}
+use Rattle.memory.specs.Tiles.{tileSize, paletteBank, tilePixel}
+use Rattle.memory.specs.declared.PixelFormat.{PixelFormat}
+use Rattle.memory.specs.declared.PixelFormat.the-variants.{BPP4, BPP8}
+use Rattle.regs.specs.declared.ObjMapping.{ObjMapping}
+use Rattle.regs.specs.declared.reading.Reading.{Reading}
+use Rattle.obj.specs.Tiles.{tileAt, texel}
+use Rattle.obj.specs.declared.attrs.ObjAttrs.{ObjAttrs}
+
+-- A tile is at most 64 bytes.
+pub tileSize-bound : (format : PixelFormat) → tileSize format ≤ 64
+tileSize-bound BPP4 = omega arith
+tileSize-bound BPP8 = omega arith
+
+module _ (row y : ℕ) (row≤ : row ≤ 32) (y< : y < 64) where
+  -- At most 7 rows of at most 32 tiles lie above.
+  pub rows-bound : row * (y / 8) ≤ 224
+  rows-bound = let above : y / 8 ≤ 7 = omega arith in omega (arith, mul-le-mul row≤ above)
+
+  -- The bytes before a tile.
+  pub tiles-bound : (size x : ℕ) → size ≤ 64 → x < 64 → size * (x / 8 + row * (y / 8)) ≤ 14784
+  tiles-bound size x size≤ x< =
+      let tiles : x / 8 + row * (y / 8) ≤ 231 = omega (arith, rows-bound) in
+      omega (arith, mul-le-mul size≤ tiles)
+
+-- A pixel whose address, index and bank were found.
+pub texel-is : (reading : Reading) (mapping : ObjMapping) (vram palette : List ℕ) (s : ObjAttrs) (x y : ℕ)
+    {addr index bank color : ℕ}
+    → addr ≡ tileAt reading mapping s x y
+    → index ≡ tilePixel vram addr (x % 8) (y % 8) (s .format)
+    → bank ≡ paletteBank (s .format) (s .bank)
+    → color ≡ paletteColor palette 0x200 index bank
+    → color ≡ texel reading mapping vram palette s x y
+unfolding texel
+texel-is reading mapping vram palette s x y p q r e =
+    e
+    ∙ ap₂ (paletteColor palette 0x200) (q ∙ ap (λ addr. tilePixel vram addr (x % 8) (y % 8) (s .format)) p) r

@@ -1,0 +1,328 @@
+-- The order of pixels: the entry of a column holds the first pixel of least priority of all that draws put there, and its
+-- window mark tells whether a window sprite had a pixel there. No contract cites this file. Assumes nothing.
+use Prim.Native.Nat.{ℕ, zero, suc, _+_, _*_, _/_, _%_, _≤_, _<_}
+use native.Mathlib.Omega.{arith}
+use mathlib.Core.Path.{_≡_, refl, sym, ap, _∙_}
+use mathlib.Core.Bool.{Bool, true, false, not, cond, _&&_, _||_, or-true, or-false, or-assoc}
+use mathlib.Core.List.{
+  List,
+  [],
+  _∷_,
+  _++_,
+  append-nil,
+  append-assoc,
+  List·Memᴰ,
+  List·Memᴰ·head,
+  Memᴰ·append-left,
+  Memᴰ·append-right,
+  List·Memᴰ·append-cases,
+  List·Memᴰ·eq-of-singleton,
+  List·Memᴰ·not-nil,
+}
+use mathlib.Core.Logic.{_⊎_, inl, inr, ⊎-elim}
+use lib.Dec.{eqb, ltb, leb}
+use borrow.Author.Tests.{ltb-true, ltb-false, lt-ltb, eqb-true, eq-eqb, leb-true, leb-false}
+use Rattle.rgb15.specs.Colour.{isTransparent}
+use Rattle.signed.proofs.Order.{and-both}
+use Rattle.rows.specs.Cells.{cellAt}
+use Rattle.rows.proofs.Cells.{cellAt-rowOf}
+use Rattle.obj.specs.Attrs.{sprite}
+use Rattle.obj.specs.Sprite.{source, spriteColor}
+use Rattle.obj.specs.Entry.{entryCells, semiMark, resetEntry, resetRow}
+use Rattle.obj.specs.Put.{passedOver, shownBy, windowed, written, putPixel, spriteStep, entryUpTo}
+use Rattle.obj.specs.Order.{
+  Draw,
+  Pixel,
+  isVisible,
+  isSemi,
+  isWindow,
+  isOpaque,
+  pixelOf,
+  pixelsUpTo,
+  pixelsPut,
+  windowUpTo,
+  windowPut,
+  isBefore,
+  Wins,
+  Shows,
+  Blank,
+  Holds,
+  none,
+  some,
+  entryAfter,
+}
+use Rattle.obj.specs.declared.attrs.ObjMode.{ObjMode}
+use Rattle.obj.specs.declared.entry.Entry.{Entry}
+use Rattle.obj.proofs.Decode.{priority-bound}
+
+-- ---- which of two pixels comes first
+
+-- Pixel p was put earlier than sprite n of draw number i is.
+abbrev Earlier : ℕ → ℕ → Pixel → Type 0
+Earlier i n p = (p .draw < i) ⊎ ((p .draw ≡ i) × (p .sprite < n))
+
+module _ (p q : Pixel) where
+  isBefore-priority : p .priority < q .priority → isBefore p q ≡ true
+  unfolding isBefore
+  isBefore-priority h = rw (lt-ltb (p .priority) (q .priority) h)
+
+  -- Of equal priorities the earlier pixel comes first.
+  isBefore-tie : p .priority ≡ q .priority → Earlier (q .draw) (q .sprite) p → isBefore p q ≡ true
+  unfolding isBefore
+  isBefore-tie e (inl h) =
+      rw (eq-eqb (p .priority) (q .priority) e, lt-ltb (p .draw) (q .draw) h, or-true (ltb (p .priority) (q .priority)))
+  isBefore-tie e (inr h) =
+      rw (
+        eq-eqb (p .priority) (q .priority) e,
+        eq-eqb (p .draw) (q .draw) (h .0),
+        lt-ltb (p .sprite) (q .sprite) (h .1),
+        or-true (ltb (p .draw) (q .draw)),
+        or-true (ltb (p .priority) (q .priority)),
+      )
+
+  isBefore-earlier : p .priority ≤ q .priority → Earlier (q .draw) (q .sprite) p → isBefore p q ≡ true
+  isBefore-earlier h u = go (ltb (p .priority) (q .priority)) refl
+    where
+      go : (t : Bool) → ltb (p .priority) (q .priority) ≡ t → isBefore p q ≡ true
+      go true t = isBefore-priority (ltb-true (p .priority) (q .priority) t)
+      go false t = isBefore-tie (omega (arith, ltb-false (p .priority) (q .priority) t)) u
+
+  -- What comes first has no greater priority.
+  isBefore-le : isBefore p q ≡ true → p .priority ≤ q .priority
+  unfolding isBefore
+  isBefore-le e = go (ltb (p .priority) (q .priority)) refl
+    where
+      go : (t : Bool) → ltb (p .priority) (q .priority) ≡ t → p .priority ≤ q .priority
+      go true t = omega (arith, ltb-true (p .priority) (q .priority) t)
+      go false t = omega (arith, eqb-true (p .priority) (q .priority) (and-both _ _ (rw t at e) .0))
+
+-- ---- one pixel more
+
+-- Every pixel was put earlier than sprite n of draw number i is.
+abbrev AllEarlier : ℕ → ℕ → List Pixel → Type 0
+AllEarlier i n ps = (p : Pixel) → List·Memᴰ p ps → Earlier i n p
+
+module _ (ps : List Pixel) (e : Entry) (q : Pixel) where
+  -- A pixel that the entry's priority passes over doesn't win.
+  wins-passed : (w : Pixel) → Wins ps w → w .priority ≤ q .priority → Earlier (q .draw) (q .sprite) w → Wins (ps ++ (q ∷ [])) w
+  wins-passed w wins h u =
+      record {
+        among = Memᴰ·append-left (q ∷ []) (wins .among);
+        first = λ p m.
+            ⊎-elim (λ in-ps. wins .first p in-ps)
+            (λ last. inr (ap (isBefore w) (List·Memᴰ·eq-of-singleton last) ∙ isBefore-earlier w q h u))
+            (List·Memᴰ·append-cases ps m);
+      }
+
+  holds-passed : Holds ps e → AllEarlier (q .draw) (q .sprite) ps → q .priority ≤ 3 → e .priority ≤ q .priority
+      → Holds (ps ++ (q ∷ [])) e
+  holds-passed (none empty blank) earlier q≤ h = absurd (omega (arith, blank .priority-is))
+  holds-passed (some w wins shows) earlier q≤ h =
+      some w (wins-passed w wins (omega (arith, shows .priority-is)) (earlier w (wins .among))) shows
+
+  -- A pixel of lesser priority than the entry's wins.
+  taken-first : Holds ps e → q .priority < e .priority → (p : Pixel) → List·Memᴰ p ps → isBefore q p ≡ true
+  taken-first (none empty blank) h p m = absurd (List·Memᴰ·not-nil (rw empty at m))
+  taken-first (some w wins shows) h p m =
+      isBefore-priority q p
+      (⊎-elim
+      (λ same. omega (arith, shows .priority-is, ap (λ x. x .priority) same))
+      (λ before. omega (arith, shows .priority-is, isBefore-le w p before))
+      (wins .first p m))
+
+  holds-taken : (f : Entry) → Holds ps e → q .priority < e .priority → Shows q f → Holds (ps ++ (q ∷ [])) f
+  holds-taken f holds h shows =
+      some q
+      (record {
+        among = Memᴰ·append-right ps (List·Memᴰ·head refl);
+        first = λ p m.
+            ⊎-elim (λ in-ps. inr (taken-first holds h p in-ps)) (λ last. inl (List·Memᴰ·eq-of-singleton last))
+            (List·Memᴰ·append-cases ps m);
+      })
+      shows
+
+-- ---- one sprite more
+
+cond-same : {A : Type 0} (t : Bool) (a : A) → cond t a a ≡ a
+cond-same true a = refl
+cond-same false a = refl
+
+-- What a pixel of an ordinary (0) or semi-transparent (1) sprite makes of an entry that shows nothing foremost.
+module _ (ps : List Pixel) (e : Entry) (q : Pixel) (semi : ℕ) (semi≤ : semi ≤ 1) (semi-is : eqb semi 1 ≡ q .semi) where
+  shows-shownBy : Shows q (shownBy semi (q .priority) (q .color) e)
+  unfolding shownBy
+  shows-shownBy =
+      let mark : (e .marks / 2 * 2 + semi) / 1 % 2 ≡ semi = omega arith in
+      record { color-is = refl; priority-is = refl; semi-is = ap (λ n. eqb n 1) mark ∙ semi-is }
+
+  holds-shown : Holds ps e → AllEarlier (q .draw) (q .sprite) ps → q .priority ≤ 3
+      → Holds (ps ++ (q ∷ [])) (cond (leb (e .priority) (q .priority)) e (shownBy semi (q .priority) (q .color) e))
+  holds-shown holds earlier q≤ = go (leb (e .priority) (q .priority)) refl
+    where
+      go : (t : Bool) → leb (e .priority) (q .priority) ≡ t
+          → Holds (ps ++ (q ∷ [])) (cond t e (shownBy semi (q .priority) (q .color) e))
+      go true t = holds-passed ps e q holds earlier q≤ (leb-true (e .priority) (q .priority) t)
+      go false t = holds-taken ps e q _ holds (omega (arith, leb-false (e .priority) (q .priority) t)) shows-shownBy
+
+-- The window mark is none of what an entry shows.
+holds-windowed : (ps : List Pixel) (e : Entry) → Holds ps e → Holds ps (windowed e)
+unfolding windowed
+holds-windowed ps e (none empty blank) =
+    let mark : (e .marks / 4 * 4 + 2 + e .marks % 2) / 1 % 2 ≡ e .marks / 1 % 2 = omega arith in
+    none empty
+    (record { color-is = blank .color-is; priority-is = blank .priority-is; semi-is = ap (λ n. eqb n 1) mark ∙ blank .semi-is })
+holds-windowed ps e (some w wins shows) =
+    let mark : (e .marks / 4 * 4 + 2 + e .marks % 2) / 1 % 2 ≡ e .marks / 1 % 2 = omega arith in
+    some w wins
+    (record { color-is = shows .color-is; priority-is = shows .priority-is; semi-is = ap (λ n. eqb n 1) mark ∙ shows .semi-is })
+
+-- A sprite of any mode, with a colour that may be transparent.
+module _ (ps : List Pixel) (e : Entry) (i n priority color : ℕ)
+    (holds : Holds ps e) (earlier : AllEarlier i n ps) (priority≤ : priority ≤ 3) where
+  abbrev pixelBy : ObjMode → Pixel
+  pixelBy mode = record { draw = i; sprite = n; priority = priority; color = color; semi = isSemi mode }
+
+  holds-put : (mode : ObjMode) (clear : Bool) → isTransparent color ≡ clear
+      → Holds (ps ++ cond (isVisible mode && not (isTransparent color)) (pixelBy mode ∷ []) []) (putPixel mode priority color e)
+  unfolding putPixel passedOver written isVisible isSemi
+  holds-put ObjMode.Normal true t = rw (t, or-true (leb (e .priority) priority), append-nil ps) holds
+  holds-put ObjMode.Normal false t =
+      rw (t, or-false (leb (e .priority) priority))
+      (holds-shown ps e (pixelBy ObjMode.Normal) 0 (omega arith) refl holds earlier priority≤)
+  holds-put ObjMode.Sfx true t = rw (t, or-true (leb (e .priority) priority), append-nil ps) holds
+  holds-put ObjMode.Sfx false t =
+      rw (t, or-false (leb (e .priority) priority))
+      (holds-shown ps e (pixelBy ObjMode.Sfx) 1 (omega arith) refl holds earlier priority≤)
+  holds-put ObjMode.Window true t = rw (t, append-nil ps) holds
+  holds-put ObjMode.Window false t = rw (t, append-nil ps) (holds-windowed ps e holds)
+  holds-put ObjMode.Forbidden clear t =
+      rw (append-nil ps, cond-same (leb (e .priority) priority || isTransparent color) e) holds
+
+  earlier-put : (visible : Bool) (q : Pixel) → q .draw ≡ i → q .sprite ≡ n → AllEarlier i (suc n) (ps ++ cond visible (q ∷ []) [])
+  earlier-put visible q draw-is sprite-is p m =
+      ⊎-elim
+      (λ in-ps. ⊎-elim inl (λ same. inr (same .0, omega (arith, same .1))) (earlier p in-ps))
+      (λ last. go visible last)
+      (List·Memᴰ·append-cases ps m)
+    where
+      go : (b : Bool) → List·Memᴰ p (cond b (q ∷ []) []) → Earlier i (suc n) p
+      go true last =
+          let same = List·Memᴰ·eq-of-singleton last in
+          inr (ap (λ x. x .draw) same ∙ draw-is, omega (arith, ap (λ x. x .sprite) same))
+      go false last = absurd (List·Memᴰ·not-nil last)
+
+-- ---- the sprites of a draw, and draws one after another
+
+module _ (column : ℕ) where
+  -- What an entry holds, and that all of it was put earlier.
+  pub record Held (i n : ℕ) (ps : List Pixel) (e : Entry) : Type 0 where
+    pub holds : Holds ps e
+    pub earlier : AllEarlier i n ps
+
+  held-sprite : (i : ℕ) (d : Draw) (n : ℕ) (ps : List Pixel) (e : Entry) → Held i n ps e
+      → Held i (suc n)
+      (ps ++ cond (isVisible (sprite (d .memory .oam) n .objmode) && isOpaque d n column) (pixelOf i d n column ∷ []) [])
+      (spriteStep (d .reading) (source (d .memory)) (d .line) n column e)
+  unfolding isOpaque pixelOf spriteStep
+  held-sprite i d n ps e held =
+      let s = sprite (d .memory .oam) n in
+      let color = spriteColor (d .reading) (source (d .memory)) (d .line) n column in
+      record {
+        holds =
+            holds-put ps e i n (s .priority) color (held .holds) (held .earlier) (priority-bound _)
+            (s .objmode) (isTransparent color) refl;
+        earlier =
+            earlier-put ps e i n (s .priority) color (held .holds) (held .earlier) (priority-bound _)
+            (isVisible (s .objmode) && not (isTransparent color)) _ refl refl;
+      }
+
+  held-sprites : (i : ℕ) (d : Draw) (n : ℕ) (ps : List Pixel) (e : Entry) → Held i 0 ps e
+      → Held i n (ps ++ pixelsUpTo i d n column) (entryUpTo (d .reading) (source (d .memory)) (d .line) n column e)
+  unfolding pixelsUpTo entryUpTo
+  held-sprites i d zero ps e held = rw (append-nil ps) held
+  held-sprites i d (suc n) ps e held =
+      rw (← append-assoc) (held-sprite i d n _ _ (held-sprites i d n ps e held))
+
+  -- Of what was put before a draw, and of what draws from number i on put, the entry holds the winner.
+  pub held-draws : (i : ℕ) (ds : List Draw) (ps : List Pixel) (e : Entry) → Held i 0 ps e
+      → Holds (ps ++ pixelsPut i ds column) (entryAfter ds column e)
+  unfolding pixelsPut entryAfter
+  held-draws i [] ps e held = rw (append-nil ps) (held .holds)
+  held-draws i (d ∷ ds) ps e held =
+      let after = held-sprites i d 128 ps e held in
+      rw (← append-assoc)
+      (held-draws (suc i) ds _ _
+      (record {
+        holds = after .holds;
+        earlier = λ p m. ⊎-elim (λ h. inl (omega arith)) (λ h. inl (omega (arith, h .0))) (after .earlier p m);
+      }))
+
+  held-reset : Held 0 0 [] resetEntry
+  held-reset =
+      record {
+        holds = none refl (record { color-is = refl; priority-is = refl; semi-is = refl });
+        earlier = λ p m. absurd (List·Memᴰ·not-nil m);
+      }
+
+  -- From the reset entry, the entry holds the winner of all that draws put, or nothing where they put nothing.
+  pub holds-draws : (ds : List Draw) → Holds (pixelsPut 0 ds column) (entryAfter ds column resetEntry)
+  holds-draws ds = held-draws 0 ds [] resetEntry held-reset
+
+  -- The same of one draw alone.
+  pub holds-draw : (d : Draw)
+      → Holds (pixelsUpTo 0 d 128 column) (entryUpTo (d .reading) (source (d .memory)) (d .line) 128 column resetEntry)
+  holds-draw d = held-sprites 0 d 128 [] resetEntry held-reset .holds
+
+-- ---- the row
+
+-- A column of the row after draws is what they make of its entry.
+pub cellAt-rowsAfter : (ds : List Draw) (entries : List ℕ) (column : ℕ) → column < 240
+    → cellAt entryCells (rowsAfter ds entries) column ≡ entryAfter ds column (cellAt entryCells entries column)
+unfolding rowsAfter entryAfter
+cellAt-rowsAfter [] entries column column< = refl
+cellAt-rowsAfter (d ∷ ds) entries column column< =
+    cellAt-rowsAfter ds _ column column<
+    ∙ ap (entryAfter ds column) (cellAt-rowOf entryCells _ 240 column column<)
+
+-- From the reset row, every column holds the winner of all that draws put there, or nothing.
+pub holds-rows : (ds : List Draw) (column : ℕ) → column < 240
+    → Holds (pixelsPut 0 ds column) (cellAt entryCells (rowsAfter ds resetRow) column)
+holds-rows ds column column< =
+    let entry-is : cellAt entryCells (rowsAfter ds resetRow) column ≡ entryAfter ds column resetEntry
+        = cellAt-rowsAfter ds resetRow column column<
+        ∙ ap (entryAfter ds column) (cellAt-rowOf entryCells _ 240 column column<) in
+    rw entry-is (holds-draws column ds)
+
+-- ---- there is one winner
+
+or-split : (a b : Bool) → (a || b) ≡ true → (a ≡ true) ⊎ (b ≡ true)
+or-split true b e = inl refl
+or-split false b e = inr e
+
+isBefore-same : (p q : Pixel) → p .priority ≡ q .priority → isBefore p q ≡ true → Earlier (q .draw) (q .sprite) p
+unfolding isBefore
+isBefore-same p q same e =
+    ⊎-elim
+    (λ t. absurd (omega (arith, ltb-true (p .priority) (q .priority) t)))
+    (λ t.
+    ⊎-elim
+    (λ h. inl (ltb-true (p .draw) (q .draw) h))
+    (λ h.
+    let both = and-both (eqb (p .draw) (q .draw)) (ltb (p .sprite) (q .sprite)) h in
+    inr (eqb-true (p .draw) (q .draw) (both .0), ltb-true (p .sprite) (q .sprite) (both .1)))
+    (or-split (ltb (p .draw) (q .draw)) _ (and-both (eqb (p .priority) (q .priority)) _ t .1)))
+    (or-split (ltb (p .priority) (q .priority)) _ e)
+
+isBefore-once : (p q : Pixel) → isBefore p q ≡ true → isBefore q p ≡ true → ⊥
+isBefore-once p q h u =
+    let same : p .priority ≡ q .priority = omega (arith, isBefore-le p q h, isBefore-le q p u) in
+    ⊎-elim
+    (λ a. ⊎-elim (λ b. omega arith) (λ b. omega (arith, b .0)) (isBefore-same q p (sym same) u))
+    (λ a. ⊎-elim (λ b. omega (arith, a .0)) (λ b. omega (arith, a .1, b .1)) (isBefore-same q p (sym same) u))
+    (isBefore-same p q same h)
+
+pub wins-once : (ps : List Pixel) (v w : Pixel) → Wins ps v → Wins ps w → v ≡ w
+wins-once ps v w a b =
+    ⊎-elim (λ same. same)
+    (λ w-first. ⊎-elim (λ same. sym same) (λ v-first. absurd (isBefore-once w v w-first v-first)) (a .first w (b .among)))
+    (b .first v (a .among))

@@ -1,0 +1,105 @@
+-- Laws of the pixels that a sprite puts. No contract cites this file. Assumes nothing.
+use Prim.Native.Nat.{ℕ, _+_, _≤_, _<_}
+use mathlib.Core.Path.{_≡_, refl, sym, ap, ap₂, _∙_}
+use mathlib.Core.Bool.{Bool, true, false, cond, _||_, or-true}
+use mathlib.Core.List.{List}
+use lib.ListN.{length, getD}
+use mir.Syntax.{w8}
+use mir.Val.{Fits}
+use Rattle.rgb15.specs.Colour.{transparent, isTransparent}
+use Rattle.rows.specs.Below.{within}
+use Rattle.rows.specs.Cells.{cellAt, putCell}
+use Rattle.rows.proofs.Cells.{putCell-same, mapRow-cong, mapRow-same}
+use Rattle.rows.proofs.Passed.{PassedPart, passed-from, passed-inside, passed-to}
+use Rattle.obj.specs.Entry.{entryCells}
+use Rattle.obj.specs.Put.{passedOver, written, putPixel, putColumn, putRow}
+use Rattle.obj.specs.declared.attrs.ObjAttrs.{ObjAttrs}
+use Rattle.obj.specs.declared.attrs.ObjMode.{ObjMode}
+use Rattle.obj.specs.declared.entry.Entry.{Entry}
+use Rattle.obj.proofs.Entries.{exact-entryCells}
+
+module _ (mode : ObjMode) (priority : ℕ) where
+  -- A transparent pixel changes nothing.
+  pub putPixel-transparent : (e : Entry) → putPixel mode priority transparent e ≡ e
+  unfolding putPixel
+  putPixel-transparent e = rw (or-true (passedOver mode priority e))
+
+  -- A pixel that is passed over changes nothing.
+  pub putPixel-passed : (color : ℕ) (e : Entry) → passedOver mode priority e ≡ true → putPixel mode priority color e ≡ e
+  unfolding putPixel
+  putPixel-passed color e t = rw t
+
+  module _ (color : ℕ) (e : Entry) {passed clear : Bool}
+      (passed-is : passed ≡ passedOver mode priority e) (clear-is : clear ≡ isTransparent color) where
+    -- Where either test holds the entry stays.
+    pub putPixel-none : (passed || clear) ≡ true → e ≡ putPixel mode priority color e
+    unfolding putPixel
+    putPixel-none t = rw (sym (ap₂ _||_ passed-is clear-is) ∙ t)
+
+    -- Where neither holds the pixel is written.
+    pub putPixel-some : {r : Entry} → (passed || clear) ≡ false → r ≡ written mode priority color e → r ≡ putPixel mode priority color e
+    unfolding putPixel
+    putPixel-some t w = rw (sym (ap₂ _||_ passed-is clear-is) ∙ t) w
+
+-- A colour that was put is that of the sprite.
+pub putColumn-is : (s : ObjAttrs) (entries : List ℕ) (column : ℕ) {m : List ℕ} {z color : ℕ}
+    → m ≡ putColumn s z entries column → z ≡ color → m ≡ putColumn s color entries column
+putColumn-is s entries column e z-is = e ∙ ap (λ z. putColumn s z entries column) z-is
+
+-- An entry for which the sprite is passed over stays, whatever the colour.
+pub putColumn-passed : (s : ObjAttrs) (color : ℕ) (entries : List ℕ) (column : ℕ) {e : Entry} {passed : Bool}
+    → ((i : ℕ) → Fits w8 (getD entries i 0))
+    → e ≡ cellAt entryCells entries column → passed ≡ passedOver (s .objmode) (s .priority) e → passed ≡ true
+    → entries ≡ putColumn s color entries column
+putColumn-passed s color entries column bytes e-is passed-is t =
+    sym (putCell-same entryCells entries column (exact-entryCells entries bytes column))
+    ∙ ap (putCell entryCells entries column)
+    (sym (putPixel-passed (s .objmode) (s .priority) color _
+    (ap (passedOver (s .objmode) (s .priority)) (sym e-is) ∙ sym passed-is ∙ t)))
+
+-- A sprite that has no pixel leaves the row.
+pub putRow-none : (s : ObjAttrs) (entries : List ℕ) → ((i : ℕ) → Fits w8 (getD entries i 0))
+    → entries ≡ putRow s (λ _. transparent) entries
+putRow-none s entries bytes =
+    sym
+    (mapRow-same entryCells _ 240 entries
+    (λ k k<. exact-entryCells entries bytes k)
+    (λ k k<. putPixel-transparent (s .objmode) (s .priority) _))
+
+-- ---- a loop over a sprite's columns
+
+module _ (s : ObjAttrs) (color : ℕ → ℕ) where
+  -- The columns from start up to k are put; no loop goes to those before start or from end on.
+  abbrev pub PutPart : ℕ → ℕ → List ℕ → ℕ → List ℕ → Type 0
+  PutPart start end entries₀ k entries =
+      PassedPart entryCells (λ k. putPixel (s .objmode) (s .priority) (color k)) 240 start end entries₀ k entries
+
+  pub putPart-from : (start end : ℕ) (entries : List ℕ) → length entries ≡ 960 → start ≤ 240
+      → ((i : ℕ) → Fits w8 (getD entries i 0))
+      → PutPart start end entries start entries
+  putPart-from start end entries size start≤ bytes =
+      passed-from entryCells size start≤ (λ k k<. exact-entryCells entries bytes k)
+
+  -- A turn, which put the colour z.
+  pub putPart-inside : {start end k z : ℕ} {entries₀ l m : List ℕ}
+      → PutPart start end entries₀ k l → k < end → end ≤ 240 → m ≡ putColumn s z l k → z ≡ color k
+      → PutPart start end entries₀ (k + 1) m
+  putPart-inside {k = k} {l = l} part k< end≤ put-is z-is =
+      passed-inside entryCells part k< end≤ put-is
+      (ap (λ z. putPixel (s .objmode) (s .priority) z (cellAt entryCells l k)) z-is)
+
+  -- Where the loop ends every column is put, if the sprite has no pixel in those that the loop left out.
+  pub putPart-to : {start end k : ℕ} {entries₀ l : List ℕ}
+      → PutPart start end entries₀ k l → end ≤ k
+      → ((k : ℕ) → k < 240 → within start end k ≡ false → color k ≡ transparent)
+      → l ≡ putRow s color entries₀
+  putPart-to {start} {end} {entries₀ = entries₀} part k≤ none =
+      passed-to entryCells part k≤
+      ∙ mapRow-cong entryCells _ _ 240 entries₀ (λ k k< e. go k k< e (within start end k) refl)
+    where
+      go : (k : ℕ) → k < 240 → (e : Entry) (t : Bool) → within start end k ≡ t
+          → cond t (putPixel (s .objmode) (s .priority) (color k) e) e ≡ putPixel (s .objmode) (s .priority) (color k) e
+      go k k< e true t = refl
+      go k k< e false t =
+          sym (putPixel-transparent (s .objmode) (s .priority) e)
+          ∙ ap (λ c. putPixel (s .objmode) (s .priority) c e) (sym (none k k< t))

@@ -1,0 +1,81 @@
+-- Laws of the window mark: it tells whether a window sprite had an opaque pixel, in this draw or an earlier one. No contract
+-- cites this file. Assumes nothing.
+use Prim.Native.Nat.{ℕ, zero, suc, _+_, _*_, _/_, _%_, _≤_}
+use native.Mathlib.Omega.{arith}
+use mathlib.Core.Path.{_≡_, refl, sym, ap, _∙_}
+use mathlib.Core.Bool.{Bool, true, false, not, cond, _&&_, _||_, or-true, or-false, or-assoc}
+use mathlib.Core.List.{List, [], _∷_}
+use lib.Dec.{eqb, leb}
+use Rattle.rgb15.specs.Colour.{isTransparent}
+use Rattle.obj.specs.Attrs.{sprite}
+use Rattle.obj.specs.Sprite.{source, spriteColor}
+use Rattle.obj.specs.Entry.{windowMark, resetEntry}
+use Rattle.obj.specs.Put.{passedOver, shownBy, windowed, written, putPixel, spriteStep, entryUpTo}
+use Rattle.obj.specs.Order.{Draw, isWindow, isOpaque, windowUpTo, windowPut, entryAfter}
+use Rattle.obj.specs.declared.attrs.ObjMode.{ObjMode}
+use Rattle.obj.specs.declared.entry.Entry.{Entry}
+
+-- A pixel that is shown leaves the window mark.
+windowMark-shownBy : (semi priority color : ℕ) (e : Entry) → semi ≤ 1 → windowMark (shownBy semi priority color e) ≡ windowMark e
+unfolding shownBy
+windowMark-shownBy semi priority color e semi≤ =
+    let mark : (e .marks / 2 * 2 + semi) / 2 % 2 ≡ e .marks / 2 % 2 = omega arith in
+    ap (λ n. eqb n 1) mark
+
+windowMark-windowed : (e : Entry) → windowMark (windowed e) ≡ true
+unfolding windowed
+windowMark-windowed e =
+    let mark : (e .marks / 4 * 4 + 2 + e .marks % 2) / 2 % 2 ≡ 1 = omega arith in
+    ap (λ n. eqb n 1) mark
+
+cond-either : {A B : Type 0} (f : A → B) (t : Bool) (a b : A) → f b ≡ f a → f (cond t a b) ≡ f a
+cond-either f true a b e = refl
+cond-either f false a b e = e
+
+module _ (priority color : ℕ) (e : Entry) where
+  windowMark-put : (mode : ObjMode) (clear : Bool) → isTransparent color ≡ clear
+      → windowMark (putPixel mode priority color e) ≡ (windowMark e || (isWindow mode && not clear))
+  unfolding putPixel passedOver written isWindow
+  windowMark-put ObjMode.Normal clear t =
+      cond-either windowMark (leb (e .priority) priority || isTransparent color) e _
+      (windowMark-shownBy 0 priority color e (omega arith))
+      ∙ sym (or-false (windowMark e))
+  windowMark-put ObjMode.Sfx clear t =
+      cond-either windowMark (leb (e .priority) priority || isTransparent color) e _
+      (windowMark-shownBy 1 priority color e (omega arith))
+      ∙ sym (or-false (windowMark e))
+  windowMark-put ObjMode.Window true t = rw t (sym (or-false (windowMark e)))
+  windowMark-put ObjMode.Window false t = rw t (windowMark-windowed e ∙ sym (or-true (windowMark e)))
+  windowMark-put ObjMode.Forbidden clear t =
+      cond-either windowMark (leb (e .priority) priority || isTransparent color) e e refl
+      ∙ sym (or-false (windowMark e))
+
+module _ (column : ℕ) where
+  windowMark-sprite : (d : Draw) (n : ℕ) (e : Entry)
+      → windowMark (spriteStep (d .reading) (source (d .memory)) (d .line) n column e)
+      ≡ (windowMark e || (isWindow (sprite (d .memory .oam) n .objmode) && isOpaque d n column))
+  unfolding isOpaque spriteStep
+  windowMark-sprite d n e = windowMark-put _ _ e _ _ refl
+
+  windowMark-sprites : (d : Draw) (n : ℕ) (e : Entry)
+      → windowMark (entryUpTo (d .reading) (source (d .memory)) (d .line) n column e)
+      ≡ (windowMark e || windowUpTo d n column)
+  unfolding windowUpTo entryUpTo
+  windowMark-sprites d zero e = sym (or-false (windowMark e))
+  windowMark-sprites d (suc n) e =
+      windowMark-sprite d n _
+      ∙ ap (λ t. t || (isWindow (sprite (d .memory .oam) n .objmode) && isOpaque d n column)) (windowMark-sprites d n e)
+      ∙ or-assoc (windowMark e) (windowUpTo d n column) _
+
+  -- The mark stays set, and is set exactly if a window sprite of the draws has an opaque pixel there.
+  pub windowMark-draws : (ds : List Draw) (e : Entry)
+      → windowMark (entryAfter ds column e) ≡ (windowMark e || windowPut ds column)
+  unfolding windowPut entryAfter
+  windowMark-draws [] e = sym (or-false (windowMark e))
+  windowMark-draws (d ∷ ds) e =
+      windowMark-draws ds _
+      ∙ ap (λ t. t || windowPut ds column) (windowMark-sprites d 128 e)
+      ∙ or-assoc (windowMark e) (windowUpTo d 128 column) (windowPut ds column)
+
+  pub windowMark-reset : (ds : List Draw) → windowMark (entryAfter ds column resetEntry) ≡ windowPut ds column
+  windowMark-reset ds = windowMark-draws ds resetEntry

@@ -1,0 +1,34 @@
+-- obj::affine::get_affine_matrix meets its contract: the four reads are the halfwords of matrix, each lifted.
+-- Assumes nothing.
+use borrow.Author.Needs.{needs}
+use Rattle.obj.specs.Oam.{matrix}
+use Rattle.obj.proofs.Decode.{signed16-read}
+use Rattle.obj.proofs.affine.get_affine_matrix.Statement.{statement}
+use Rattle.obj.proofs.affine.get_affine_matrix.Tie as tie
+
+returns : tie.Need-returns
+unfolding matrix
+returns c = search (needs, signed16-read)
+
+pub get-affine-matrix-spec : {M : Type 1} → statement M
+get-affine-matrix-spec =
+    tie.close
+    (tie.spec
+    (search needs)
+    (search needs)
+    (search needs)
+    (search needs)
+    (search needs)
+    (search needs)
+    (search needs)
+    (search needs)
+    (search needs)
+    (search needs)
+    (search needs)
+    (search needs)
+    (search needs)
+    (search needs)
+    (search needs)
+    (search needs)
+    (search needs)
+    returns)

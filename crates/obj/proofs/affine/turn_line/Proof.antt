@@ -1,0 +1,32 @@
+-- obj::affine::turn_line meets its contract: the calls give the matrix, the box and the row, and both coordinates of column 0.
+-- Assumes nothing.
+use Prim.Native.Nat.{_/_}
+use mathlib.Core.Path.{sym, ap₂}
+use lib.IntN.{pos, _-ℤ_}
+use borrow.Author.Needs.{needs}
+use Rattle.obj.proofs.Turns.{turnOf-is}
+use Rattle.obj.proofs.affine.turn_line.Statement.{statement}
+use Rattle.obj.proofs.affine.turn_line.Tie as tie
+
+row-requires : tie.Need-row-requires
+row-requires c κs = search needs
+
+returns : tie.Need-returns
+returns c =
+    let row = c .before .before .row in
+    let height = c .before .before .before .box-height in
+    turnOf-is _ _ _ _ _ _ _ _ (c .before .before .before .before .before .get-affine-matrix .ensures) (c .before .before .before .before .box-width .ensures .0)
+    (ap₂ (λ z h. z -ℤ pos (h / 2)) (row .ensures .0) (sym (height .ensures .0)))
+    (c .before .turn-start .ensures) (c .turn-start2 .ensures)
+
+pub turn-line-spec : {M : Type 1} → statement M
+turn-line-spec =
+    tie.close
+    (tie.spec
+    (search needs)
+    (search needs)
+    (search needs)
+    row-requires
+    (search needs)
+    (search needs)
+    returns)

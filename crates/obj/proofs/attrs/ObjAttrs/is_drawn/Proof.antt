@@ -1,0 +1,22 @@
+-- obj::attrs::ObjAttrs::is_drawn meets its contract: its tests are those of drawn.
+-- Assumes nothing.
+use borrow.Author.Needs.{needs}
+use Rattle.obj.proofs.Drawn.{drawn-is}
+use Rattle.obj.proofs.attrs.ObjAttrs.is_drawn.Statement.{statement}
+use Rattle.obj.proofs.attrs.ObjAttrs.is_drawn.Tie as tie
+
+returns : tie.Need-returns
+returns c = search (needs, drawn-is)
+
+pub is-drawn-spec : {M : Type 1} → statement M
+is-drawn-spec =
+    tie.close
+    (tie.spec
+    (search needs)
+    (search needs)
+    (search needs)
+    (search needs)
+    (search needs)
+    (search needs)
+    (search needs)
+    returns)

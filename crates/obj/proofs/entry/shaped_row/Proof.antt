@@ -1,0 +1,42 @@
+-- obj::entry::shaped_row meets its contract: the sum of the faults is 0 if each entry has none.
+-- Assumes nothing.
+use Prim.Native.Nat.{_-_}
+use mathlib.Core.Path.{ap, _∙_}
+use lib.Dec.{eqb}
+use borrow.Author.Needs.{needs}
+use Rattle.rows.proofs.Tested.{Summed, summed-none, summed-more, summed-all}
+use Rattle.obj.proofs.Entries.{faultAt, shapedRow-faults}
+use Rattle.obj.proofs.entry.shaped_row.Statement.{statement}
+use Rattle.obj.proofs.entry.shaped_row.Tie as tie
+
+abbrev Inv-loop : tie.InvT-loop
+Inv-loop entries faults₀ k₀ faults k = Summed (faultAt entries) 240 1 k faults
+
+abbrev μ-loop : tie.MeasureT-loop
+μ-loop entries faults₀ k₀ faults k = 240 - k
+
+loop-holds : tie.Need-loop-holds Inv-loop μ-loop
+loop-holds c = search (needs, summed-none)
+
+loop-again : tie.Need-loop-again Inv-loop μ-loop
+loop-again c = summed-more (c .before .before .before .loop .inv) (search needs) (search needs) (cc)
+
+returns : tie.Need-returns Inv-loop μ-loop
+returns c =
+    ap (λ n. eqb n 0) (summed-all (c .before .loop .inv) (search needs))
+    ∙ shapedRow-faults _
+
+pub shaped-row-spec : {M : Type 1} → statement M
+shaped-row-spec =
+    tie.close
+    (tie.spec
+    Inv-loop
+    μ-loop
+    loop-holds
+    (search needs)
+    (search needs)
+    (search needs)
+    (search needs)
+    (search needs)
+    loop-again
+    returns)

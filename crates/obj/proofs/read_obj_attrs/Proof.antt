@@ -1,0 +1,22 @@
+-- obj::read_obj_attrs meets its contract: the three reads are the halfwords of attributes.
+-- Assumes nothing.
+use borrow.Author.Needs.{needs}
+use Rattle.obj.proofs.Decode.{sprite-is}
+use Rattle.obj.proofs.read_obj_attrs.Statement.{statement}
+use Rattle.obj.proofs.read_obj_attrs.Tie as tie
+
+returns : tie.Need-returns
+returns c = search (needs, sprite-is)
+
+pub read-obj-attrs-spec : {M : Type 1} → statement M
+read-obj-attrs-spec =
+    tie.close
+    (tie.spec
+    (search needs)
+    (search needs)
+    (search needs)
+    (search needs)
+    (search needs)
+    (search needs)
+    (search needs)
+    returns)

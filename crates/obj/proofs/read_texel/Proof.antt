@@ -1,0 +1,19 @@
+-- obj::read_texel meets its contract: the calls give the address, the index and the bank of texel.
+-- Assumes nothing.
+use borrow.Author.Needs.{needs}
+use Rattle.obj.proofs.Addresses.{texel-is}
+use Rattle.obj.proofs.read_texel.Statement.{statement}
+use Rattle.obj.proofs.read_texel.Tie as tie
+
+returns : tie.Need-returns
+returns c = search (needs, texel-is)
+
+pub read-texel-spec : {M : Type 1} → statement M
+read-texel-spec =
+    tie.close
+    (tie.spec
+    (search needs)
+    (search needs)
+    (search needs)
+    (search needs)
+    returns)

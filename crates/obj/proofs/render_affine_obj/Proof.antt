@@ -1,0 +1,69 @@
+-- obj::render_affine_obj meets its contract: a turn puts the colour at its column's point, and the columns of the box are all that the sprite has.
+-- Assumes nothing.
+use Prim.Native.Nat.{_-_}
+use borrow.Author.Needs.{needs}
+use Rattle.obj.specs.Color.{affineColor}
+use Rattle.obj.specs.Oam.{matrix}
+use Rattle.obj.proofs.Colors.{affineColor-inside, affineColor-outside}
+use Rattle.obj.proofs.Pixels.{PutPart, putPart-from, putPart-inside, putPart-to}
+use Rattle.obj.proofs.render_affine_obj.Statement.{statement}
+use Rattle.obj.proofs.render_affine_obj.Tie as tie
+
+abbrev Inv-loop : tie.InvT-loop
+Inv-loop entries₀ vram palette oam attrs reading mapping line left start end turn column₀ entries column =
+    PutPart attrs (affineColor reading mapping vram palette (matrix oam (attrs .«affine_index»)) attrs line)
+    start end entries₀ column entries
+
+abbrev μ-loop : tie.MeasureT-loop
+μ-loop entries₀ vram palette oam attrs reading mapping line left start end turn column₀ entries column = end - column
+
+turn-line-requires : tie.Need-turn-line-requires Inv-loop μ-loop
+turn-line-requires c κs = search needs
+
+loop-holds : tie.Need-loop-holds Inv-loop μ-loop
+loop-holds c =
+    let known = c .before .before .before .before .before .before .before .before in
+    putPart-from (known .before .args .attrs) _ _ _ _ (search needs) (search needs) (known .slice-known .given)
+
+loop-again : tie.Need-loop-again Inv-loop μ-loop
+loop-again c =
+    let turn = c .before .before .before .before in
+    let made = turn .before .before in
+    let at = made .before .before .before .before .before .before .before .before .before .args in
+    let left = made .before .before .before .before .left in
+    putPart-inside (at .attrs) _ (turn .before .loop .inv) (search needs) (search needs)
+    (c .before .before .render-affine-column .ensures)
+    (affineColor-inside (at .reading) (at .mapping) (at .vram .now) (at .palette .now) (at .attrs) (at .line)
+    (left .result) (left .ensures .0) _ _ (made .turn-line .ensures)
+    (turn .before .loop .column) (search needs) (search needs) (search needs))
+
+returns : tie.Need-returns Inv-loop μ-loop
+returns c =
+    let made = c .before .before in
+    let at = made .before .before .before .before .before .before .before .before .before .args in
+    let left = made .before .before .before .before .left in
+    putPart-to (at .attrs) _ (c .before .loop .inv) (search needs)
+    (affineColor-outside (at .reading) (at .mapping) (at .vram .now) (at .palette .now) (at .attrs) (at .line)
+    (left .result) (left .ensures .0) _ (search needs) (search needs))
+
+pub render-affine-obj-spec : {M : Type 1} → statement M
+render-affine-obj-spec =
+    tie.close
+    (tie.spec
+    Inv-loop
+    μ-loop
+    (search needs)
+    (search needs)
+    (search needs)
+    (search needs)
+    (search needs)
+    turn-line-requires
+    loop-holds
+    (search needs)
+    (search needs)
+    (search needs)
+    (search needs)
+    (search needs)
+    loop-again
+    (search needs)
+    returns)

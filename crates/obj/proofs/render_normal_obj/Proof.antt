@@ -1,0 +1,82 @@
+-- obj::render_normal_obj meets its contract: a turn puts the texel of its column, and the columns of the box are all that the sprite has.
+-- Assumes nothing.
+use Prim.Native.Nat.{_-_}
+use native.Mathlib.Omega.{arith}
+use borrow.Author.Needs.{needs}
+use Rattle.obj.specs.Color.{normalColor}
+use Rattle.obj.proofs.Colors.{normalColor-inside, normalColor-outside}
+use Rattle.obj.proofs.Pixels.{PutPart, putPart-from, putPart-inside, putPart-to}
+use Rattle.obj.proofs.Places.{boxed-normal}
+use Rattle.obj.proofs.render_normal_obj.Statement.{statement}
+use Rattle.obj.proofs.render_normal_obj.Tie as tie
+
+abbrev Inv-loop : tie.InvT-loop
+Inv-loop entries₀ vram palette attrs reading mapping line left start end sprite-y column₀ entries column =
+    PutPart attrs (normalColor reading mapping vram palette attrs line) start end entries₀ column entries
+
+abbrev μ-loop : tie.MeasureT-loop
+μ-loop entries₀ vram palette attrs reading mapping line left start end sprite-y column₀ entries column = end - column
+
+row-requires : tie.Need-row-requires Inv-loop μ-loop
+row-requires c κs = search needs
+
+flip-requires : tie.Need-flip-requires Inv-loop μ-loop
+flip-requires c κs =
+    let start = c .before .before .before .before .before .before .before .before in
+    omega (arith, boxed-normal (start .args .attrs .height) (start .pre .4))
+
+loop-holds : tie.Need-loop-holds Inv-loop μ-loop
+loop-holds c =
+    let known = c .before .before .before .before .before .before .before .before in putPart-from (known .before .args .attrs) _ _ _ _ (search needs) (search needs) (known .slice-known .given)
+
+add-render-normal-column : tie.Need-add-render-normal-column Inv-loop μ-loop
+add-render-normal-column c = search needs
+
+sub-render-normal-column : tie.Need-sub-render-normal-column Inv-loop μ-loop
+sub-render-normal-column c = search needs
+
+render-normal-column-requires : tie.Need-render-normal-column-requires Inv-loop μ-loop
+render-normal-column-requires c κs = search needs
+
+loop-again : tie.Need-loop-again Inv-loop μ-loop
+loop-again c =
+    let turn = c .before .before .before .before in
+    let made = turn .before .before in
+    let at = made .before .before .before .before .before .before .before .before .before .args in
+    let left = made .before .before .before .before .before .left in
+    putPart-inside (at .attrs) _ (turn .before .loop .inv) (search needs) (search needs)
+    (c .before .before .render-normal-column .ensures)
+    (normalColor-inside (at .reading) (at .mapping) (at .vram .now) (at .palette .now) (at .attrs) (at .line)
+    (left .result) (left .ensures .0) (made .before .row .result) (turn .before .loop .column)
+    (made .before .row .ensures .0) (made .flip .ensures .0) (search needs) (search needs))
+
+returns : tie.Need-returns Inv-loop μ-loop
+returns c =
+    let made = c .before .before in
+    let at = made .before .before .before .before .before .before .before .before .before .args in
+    let left = made .before .before .before .before .before .left in
+    putPart-to (at .attrs) _ (c .before .loop .inv) (search needs)
+    (normalColor-outside (at .reading) (at .mapping) (at .vram .now) (at .palette .now) (at .attrs) (at .line)
+    (left .result) (left .ensures .0) (search needs) (search needs))
+
+pub render-normal-obj-spec : {M : Type 1} → statement M
+render-normal-obj-spec =
+    tie.close
+    (tie.spec
+    Inv-loop
+    μ-loop
+    (search needs)
+    (search needs)
+    (search needs)
+    (search needs)
+    row-requires
+    flip-requires
+    loop-holds
+    add-render-normal-column
+    sub-render-normal-column
+    render-normal-column-requires
+    (search needs)
+    (search needs)
+    loop-again
+    (search needs)
+    returns)

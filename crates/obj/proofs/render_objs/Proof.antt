@@ -1,0 +1,54 @@
+-- obj::render_objs meets its contract: each turn is one sprite's step at every column.
+-- Assumes nothing.
+use Prim.Native.Nat.{_-_}
+use borrow.Author.Needs.{needs}
+use Rattle.rows.proofs.Passed.{Composed, composed-none, composed-more, composed-all}
+use Rattle.obj.specs.Entry.{entryCells}
+use Rattle.obj.specs.Put.{entryUpTo}
+use Rattle.obj.proofs.Entries.{exact-entryCells}
+use Rattle.obj.proofs.Steps.{entryUpTo-none, entryUpTo-more, source-is, rowAfter-is}
+use Rattle.obj.proofs.render_objs.Statement.{statement}
+use Rattle.obj.proofs.render_objs.Tie as tie
+
+abbrev Inv-loop : tie.InvT-loop
+Inv-loop entries₀ vram palette oam registers reading line mapping tiles-start obj₀ entries obj =
+    Composed entryCells
+    (entryUpTo reading (record { vram = vram; palette = palette; oam = oam; mapping = mapping; start = tiles-start }) line)
+    240 128 entries₀ obj entries
+
+abbrev μ-loop : tie.MeasureT-loop
+μ-loop entries₀ vram palette oam registers reading line mapping tiles-start obj₀ entries obj = 128 - obj
+
+loop-holds : tie.Need-loop-holds Inv-loop μ-loop
+loop-holds c =
+    composed-none entryCells (search needs) (λ k k<. exact-entryCells _ (c .before .before .before .before .before .before .before .slice-known .given) k) (entryUpTo-none _ _ _)
+
+loop-again : tie.Need-loop-again Inv-loop μ-loop
+loop-again c =
+    composed-more entryCells _ (c .before .before .before .before .before .loop .inv) (search needs) (c .before .before .render-obj .ensures)
+    (λ k k< e. entryUpTo-more _ _ _ _ k e)
+
+returns : tie.Need-returns Inv-loop μ-loop
+returns c =
+    let made = c .before .before in
+    let at = made .before .before .before .before .before .before .before .before .args in
+    rowAfter-is (at .reading) (at .line) (at .entries .now) (search needs)
+    (composed-all entryCells (c .before .loop .inv) (search needs))
+    (source-is _ (made .before .before .read-dispcnt .ensures) (made .before .obj-mapping .ensures) (made .obj-tiles-start .ensures))
+
+pub render-objs-spec : {M : Type 1} → statement M
+render-objs-spec =
+    tie.close
+    (tie.spec
+    Inv-loop
+    μ-loop
+    (search needs)
+    (search needs)
+    (search needs)
+    loop-holds
+    (search needs)
+    (search needs)
+    (search needs)
+    loop-again
+    (search needs)
+    returns)

@@ -1,0 +1,531 @@
+// Sprites (gpu/render/obj.rs). A sprite's attributes, the points of affine ones and the entries have files of their own.
+ghost use mathlib.Core.Path.{_≡_};
+ghost use mathlib.Core.Bool.{true};
+ghost use Prim.Native.Nat.{_-_, _^_, _≤_, _<_, min};
+ghost use lib.IntN.{subℕ};
+ghost use lib.ListN.{length};
+ghost use Rattle.memory.specs.Sizes.{videoRamSize, paletteRamSize, oamSize, registersSize};
+ghost use Rattle.rows.specs.Cells.{mapRow};
+ghost use Rattle.obj.specs.Oam.{matrix};
+ghost use Rattle.obj.specs.Attrs.{sprite, Decoded};
+ghost use Rattle.obj.specs.Place.{onLine};
+ghost use Rattle.obj.specs.Tiles.{tilesStart, texel};
+ghost use Rattle.obj.specs.Color.{flip, normalColor, colorAt, affineColor};
+ghost use Rattle.obj.specs.Turn.{pointAt, Ranged};
+ghost use Rattle.obj.specs.Sprite.{source, typedColor};
+ghost use Rattle.obj.specs.Entry.{entriesSize, entryCells};
+ghost use Rattle.obj.specs.Put.{passedOver, shownBy, written, putPixel};
+ghost use Rattle.obj.specs.Put.{putColumn, putRow, spriteStep, rowAfter};
+
+mod affine;
+mod attrs;
+mod entry;
+
+use affine::POINT_BIAS;
+use affine::Turn;
+use affine::point_at;
+use affine::turn_line;
+pub use attrs::ObjAttrs;
+pub use attrs::ObjMode;
+pub use attrs::ObjType;
+use attrs::X_BIAS;
+use attrs::is_inside;
+use attrs::is_ruled_out;
+pub use entry::Entry;
+pub use entry::entry_at;
+pub use entry::put_entry;
+pub use entry::reset_row;
+pub use entry::shaped_row;
+use memory::DISPLAY_WIDTH;
+use memory::get_palette_color;
+use memory::read_16;
+use memory::read_pixel_index;
+use regs::ObjMapping;
+use regs::Reading;
+use regs::iodev::read_dispcnt;
+use rgb15::Rgb15;
+
+const PALRAM_OFS_FG: usize = 0x200;
+
+const ATTRS_SIZE: usize = 2 * 3 + 2;
+
+const OBJ_COUNT: usize = 128;
+
+const VRAM_OBJ_TILES_START_TEXT: usize = 0x1_0000;
+
+const VRAM_OBJ_TILES_START_BITMAP: usize = 0x1_4000;
+
+// Sprite obj of OAM.
+pub fn read_obj_attrs(oam: &[u8], obj: usize) -> ObjAttrs
+    requires { ⌜ (length (now oam) ≡ oamSize) × (obj < 128) ⌝ }
+    ensures { λ s. ⌜ (s ≡ sprite (now (oam .entry)) obj) × Decoded s ⌝ }
+{
+    let addr = ATTRS_SIZE * obj;
+    ObjAttrs::from(
+        read_16(oam, addr),
+        read_16(oam, addr + 2),
+        read_16(oam, addr + 4),
+    )
+}
+
+// The colour of pixel (x, y) of a sprite.
+fn read_texel(
+    vram: &[u8],
+    palette: &[u8],
+    attrs: ObjAttrs,
+    reading: Reading,
+    mapping: ObjMapping,
+    x: usize,
+    y: usize,
+) -> Rgb15
+    requires { ⌜ (length (now vram) ≡ videoRamSize)
+        × (length (now palette) ≡ paletteRamSize)
+        × Decoded attrs
+        × (x < attrs .width)
+        × (y < attrs .height) ⌝ }
+    ensures { λ c.
+        ⌜ c .0 ≡ texel reading mapping (now (vram .entry)) (now (palette .entry)) attrs x y ⌝ }
+{
+    let format = attrs.format;
+    let tile_addr = attrs.tile_at(reading, mapping, x, y);
+    let pixel_index = read_pixel_index(vram, tile_addr, x % 8, y % 8, format);
+    let palette_bank = format.palette_bank(attrs.bank);
+    get_palette_color(palette, pixel_index, palette_bank, PALRAM_OFS_FG)
+}
+
+// The first column of the screen that a box covers, by its left edge plus 272.
+fn first_column(left: usize) -> usize
+    ensures { λ r. ⌜ r ≡ left - 272 ⌝ }
+{
+    if left < X_BIAS { 0 } else { left - X_BIAS }
+}
+
+// The first column of the screen past a box, by its right edge plus 272.
+fn end_column(right: usize) -> usize
+    ensures { λ r. ⌜ r ≡ min 240 (right - 272) ⌝ }
+{
+    if right < X_BIAS {
+        return 0;
+    }
+    if right < X_BIAS + DISPLAY_WIDTH {
+        right - X_BIAS
+    } else {
+        DISPLAY_WIDTH
+    }
+}
+
+// A sprite's pixel put in the entry of a column.
+fn put_column(entries: &mut [u8], attrs: ObjAttrs, column: usize, pixel_color: Rgb15)
+    requires { ⌜ (length (now entries) ≡ entriesSize) × (column < 240) ⌝ }
+    ensures { λ _.
+        ⌜ now (entries .exit) ≡ putColumn attrs («pixel_color» .0) (now (entries .entry)) column ⌝ }
+{
+    let e = entry_at(entries, column);
+    put_entry(entries, column, put_obj_pixel(e, pixel_color, attrs));
+}
+
+// The colour at a point of an affine sprite, both coordinates larger by 2^16.
+fn color_at(
+    vram: &[u8],
+    palette: &[u8],
+    attrs: ObjAttrs,
+    reading: Reading,
+    mapping: ObjMapping,
+    x: usize,
+    y: usize,
+) -> Rgb15
+    requires { ⌜ (length (now vram) ≡ videoRamSize)
+        × (length (now palette) ≡ paletteRamSize)
+        × Decoded attrs ⌝ }
+    ensures { λ c.
+        ⌜ c .0
+        ≡ colorAt reading mapping (now (vram .entry)) (now (palette .entry)) attrs
+        (subℕ x (2 ^ 16)) (subℕ y (2 ^ 16)) ⌝ }
+{
+    if is_inside(x, POINT_BIAS, attrs.width) & is_inside(y, POINT_BIAS, attrs.height) {
+        read_texel(
+            vram,
+            palette,
+            attrs,
+            reading,
+            mapping,
+            x - POINT_BIAS,
+            y - POINT_BIAS,
+        )
+    } else {
+        Rgb15::TRANSPARENT
+    }
+}
+
+// Column i of an affine sprite's box, put at a column of the screen. The priority is tested before the texel is read.
+fn render_affine_column(
+    entries: &mut [u8],
+    vram: &[u8],
+    palette: &[u8],
+    attrs: ObjAttrs,
+    reading: Reading,
+    mapping: ObjMapping,
+    turn: Turn,
+    column: usize,
+    i: usize,
+)
+    requires { ⌜ (length (now entries) ≡ entriesSize)
+        × (length (now vram) ≡ videoRamSize)
+        × (length (now palette) ≡ paletteRamSize)
+        × Decoded attrs
+        × Ranged turn
+        × (column < 240)
+        × (i ≤ 127) ⌝ }
+    ensures { λ _.
+        ⌜ now (entries .exit)
+        ≡ putColumn attrs
+        (colorAt reading mapping (now (vram .entry)) (now (palette .entry)) attrs
+        (subℕ (pointAt (turn .x) (turn .pa) i (attrs .width)) (2 ^ 16))
+        (subℕ (pointAt (turn .y) (turn .pc) i (attrs .height)) (2 ^ 16)))
+        (now (entries .entry)) column ⌝ }
+{
+    if is_passed_over(entry_at(entries, column), attrs) {
+        return;
+    }
+    let x = point_at(turn.x, turn.pa, i, attrs.width);
+    let y = point_at(turn.y, turn.pc, i, attrs.height);
+    let pixel_color = color_at(vram, palette, attrs, reading, mapping, x, y);
+    put_column(entries, attrs, column, pixel_color);
+}
+
+// The pixels of an affine sprite whose box holds the line.
+fn render_affine_obj(
+    entries: &mut [u8],
+    vram: &[u8],
+    palette: &[u8],
+    oam: &[u8],
+    attrs: ObjAttrs,
+    reading: Reading,
+    mapping: ObjMapping,
+    line: usize,
+)
+    requires { ⌜ (length (now entries) ≡ entriesSize)
+        × (length (now vram) ≡ videoRamSize)
+        × (length (now palette) ≡ paletteRamSize)
+        × (length (now oam) ≡ oamSize)
+        × Decoded attrs
+        × (line < 160)
+        × (onLine reading attrs line ≡ true) ⌝ }
+    ensures { λ _.
+        ⌜ now (entries .exit)
+        ≡ putRow attrs
+        (affineColor reading mapping (now (vram .entry)) (now (palette .entry))
+        (matrix (now (oam .entry)) (attrs .«affine_index»)) attrs line)
+        (now (entries .entry)) ⌝ }
+{
+    let left = attrs.left(reading);
+    let start = first_column(left);
+    let end = end_column(left + attrs.box_width());
+    let turn = turn_line(oam, attrs, reading, line);
+    let mut column = start;
+    while column < end {
+        render_affine_column(
+            entries,
+            vram,
+            palette,
+            attrs,
+            reading,
+            mapping,
+            turn,
+            column,
+            column + X_BIAS - left,
+        );
+        column += 1;
+    }
+}
+
+// A place of a side, counted from the other end where the bit is set.
+fn flip(set: bool, side: usize, at: usize) -> usize
+    requires { ⌜ at < side ⌝ }
+    ensures { λ r. ⌜ (r ≡ flip set side at) × (r < side) ⌝ }
+{
+    if set { side - 1 - at } else { at }
+}
+
+// Column x of row sprite_y of a normal sprite, put at a column of the screen.
+fn render_normal_column(
+    entries: &mut [u8],
+    vram: &[u8],
+    palette: &[u8],
+    attrs: ObjAttrs,
+    reading: Reading,
+    mapping: ObjMapping,
+    sprite_y: usize,
+    column: usize,
+    x: usize,
+)
+    requires { ⌜ (length (now entries) ≡ entriesSize)
+        × (length (now vram) ≡ videoRamSize)
+        × (length (now palette) ≡ paletteRamSize)
+        × Decoded attrs
+        × («sprite_y» < attrs .height)
+        × (column < 240)
+        × (x < attrs .width) ⌝ }
+    ensures { λ _.
+        ⌜ now (entries .exit)
+        ≡ putColumn attrs
+        (texel reading mapping (now (vram .entry)) (now (palette .entry)) attrs
+        (flip (attrs .«h_flip») (attrs .width) x) «sprite_y»)
+        (now (entries .entry)) column ⌝ }
+{
+    let sprite_x = flip(attrs.h_flip, attrs.width, x);
+    let pixel_color = read_texel(vram, palette, attrs, reading, mapping, sprite_x, sprite_y);
+    put_column(entries, attrs, column, pixel_color);
+}
+
+// The pixels of a normal sprite whose box holds the line.
+fn render_normal_obj(
+    entries: &mut [u8],
+    vram: &[u8],
+    palette: &[u8],
+    attrs: ObjAttrs,
+    reading: Reading,
+    mapping: ObjMapping,
+    line: usize,
+)
+    requires { ⌜ (length (now entries) ≡ entriesSize)
+        × (length (now vram) ≡ videoRamSize)
+        × (length (now palette) ≡ paletteRamSize)
+        × Decoded attrs
+        × (attrs .objtype ≡ ObjType.Normal)
+        × (line < 160)
+        × (onLine reading attrs line ≡ true) ⌝ }
+    ensures { λ _.
+        ⌜ now (entries .exit)
+        ≡ putRow attrs
+        (normalColor reading mapping (now (vram .entry)) (now (palette .entry)) attrs line)
+        (now (entries .entry)) ⌝ }
+{
+    let left = attrs.left(reading);
+    let start = first_column(left);
+    let end = end_column(left + attrs.width);
+    let sprite_y = flip(attrs.v_flip, attrs.height, attrs.row(reading, line));
+    let mut column = start;
+    while column < end {
+        render_normal_column(
+            entries,
+            vram,
+            palette,
+            attrs,
+            reading,
+            mapping,
+            sprite_y,
+            column,
+            column + X_BIAS - left,
+        );
+        column += 1;
+    }
+}
+
+// Whether a sprite is passed over for what the entry holds.
+fn is_passed_over(e: Entry, attrs: ObjAttrs) -> bool
+    ensures { λ r. ⌜ r ≡ passedOver (attrs .objmode) (attrs .priority) e ⌝ }
+{
+    let objmode = attrs.objmode;
+    match objmode {
+        ObjMode::Normal => e.priority <= attrs.priority,
+        ObjMode::Sfx => e.priority <= attrs.priority,
+        ObjMode::Window => false,
+        ObjMode::Forbidden => e.priority <= attrs.priority,
+    }
+}
+
+// The entry that shows a sprite's pixel; semi is the semi-transparent mark, 0 or 1.
+fn shown_by(e: Entry, semi: u8, priority: u8, pixel_color: Rgb15) -> Entry
+    requires { ⌜ semi ≤ 1 ⌝ }
+    ensures { λ r. ⌜ r ≡ shownBy semi priority («pixel_color» .0) e ⌝ }
+{
+    Entry {
+        color: pixel_color,
+        priority,
+        marks: e.marks / 2 * 2 + semi,
+    }
+}
+
+// What a pixel that is opaque and not passed over makes of an entry.
+fn write_obj_pixel(e: Entry, pixel_color: Rgb15, attrs: ObjAttrs) -> Entry
+    ensures { λ r. ⌜ r ≡ written (attrs .objmode) (attrs .priority) («pixel_color» .0) e ⌝ }
+{
+    let objmode = attrs.objmode;
+    match objmode {
+        ObjMode::Normal => shown_by(e, 0, attrs.priority, pixel_color),
+        ObjMode::Sfx => shown_by(e, 1, attrs.priority, pixel_color),
+        ObjMode::Window => {
+            let color = e.color;
+            Entry {
+                color,
+                priority: e.priority,
+                marks: e.marks / 4 * 4 + 2 + e.marks % 2,
+            }
+        }
+        ObjMode::Forbidden => e,
+    }
+}
+
+// What a sprite's pixel makes of an entry.
+fn put_obj_pixel(e: Entry, pixel_color: Rgb15, attrs: ObjAttrs) -> Entry
+    ensures { λ r. ⌜ r ≡ putPixel (attrs .objmode) (attrs .priority) («pixel_color» .0) e ⌝ }
+{
+    if is_passed_over(e, attrs) | pixel_color.is_transparent() {
+        e
+    } else {
+        write_obj_pixel(e, pixel_color, attrs)
+    }
+}
+
+// The pixels of a sprite whose box holds the line, by its type.
+fn render_typed_obj(
+    entries: &mut [u8],
+    vram: &[u8],
+    palette: &[u8],
+    oam: &[u8],
+    attrs: ObjAttrs,
+    reading: Reading,
+    mapping: ObjMapping,
+    line: usize,
+)
+    requires { ⌜ (length (now entries) ≡ entriesSize)
+        × (length (now vram) ≡ videoRamSize)
+        × (length (now palette) ≡ paletteRamSize)
+        × (length (now oam) ≡ oamSize)
+        × Decoded attrs
+        × (line < 160)
+        × (onLine reading attrs line ≡ true) ⌝ }
+    ensures { λ _.
+        ⌜ now (entries .exit)
+        ≡ putRow attrs
+        (typedColor (attrs .objtype) reading mapping (now (vram .entry)) (now (palette .entry))
+        (now (oam .entry)) attrs line)
+        (now (entries .entry)) ⌝ }
+{
+    let objtype = attrs.objtype;
+    match objtype {
+        ObjType::Hidden => {}
+        ObjType::Normal => render_normal_obj(entries, vram, palette, attrs, reading, mapping, line),
+        ObjType::Affine => render_affine_obj(
+            entries,
+            vram,
+            palette,
+            oam,
+            attrs,
+            reading,
+            mapping,
+            line,
+        ),
+        ObjType::AffineDoubleSize => render_affine_obj(
+            entries,
+            vram,
+            palette,
+            oam,
+            attrs,
+            reading,
+            mapping,
+            line,
+        ),
+    }
+}
+
+// The pixels of sprite obj. It is decoded only if its first halfword doesn't rule it out.
+fn render_obj(
+    entries: &mut [u8],
+    vram: &[u8],
+    palette: &[u8],
+    oam: &[u8],
+    reading: Reading,
+    mapping: ObjMapping,
+    tiles_start: usize,
+    line: usize,
+    obj: usize,
+)
+    requires { ⌜ (length (now entries) ≡ entriesSize)
+        × (length (now vram) ≡ videoRamSize)
+        × (length (now palette) ≡ paletteRamSize)
+        × (length (now oam) ≡ oamSize)
+        × (line < 160)
+        × (obj < 128) ⌝ }
+    ensures { λ _.
+        ⌜ now (entries .exit)
+        ≡ mapRow entryCells
+        (spriteStep reading
+        (record {
+          vram = now (vram .entry);
+          palette = now (palette .entry);
+          oam = now (oam .entry);
+          mapping = mapping;
+          start = «tiles_start»;
+        })
+        line obj)
+        240 (now (entries .entry)) ⌝ }
+{
+    if is_ruled_out(read_16(oam, ATTRS_SIZE * obj), line) {
+        return;
+    }
+    let attrs = read_obj_attrs(oam, obj);
+    if attrs.is_drawn(reading, tiles_start, line) {
+        render_typed_obj(entries, vram, palette, oam, attrs, reading, mapping, line);
+    }
+}
+
+// Where sprite tiles start.
+fn obj_tiles_start(mode: u16) -> usize
+    ensures { λ r. ⌜ r ≡ tilesStart mode ⌝ }
+{
+    if mode < 3 {
+        VRAM_OBJ_TILES_START_TEXT
+    } else {
+        VRAM_OBJ_TILES_START_BITMAP
+    }
+}
+
+// The pixels of a line's sprites put in its row of entries.
+pub fn render_objs(
+    entries: &mut [u8],
+    vram: &[u8],
+    palette: &[u8],
+    oam: &[u8],
+    registers: &[u8],
+    reading: Reading,
+    line: usize,
+)
+    requires { ⌜ (length (now entries) ≡ entriesSize)
+        × (length (now vram) ≡ videoRamSize)
+        × (length (now palette) ≡ paletteRamSize)
+        × (length (now oam) ≡ oamSize)
+        × (length (now registers) ≡ registersSize)
+        × (line < 160) ⌝ }
+    ensures { λ _.
+        ⌜ now (entries .exit)
+        ≡ rowAfter reading
+        (source
+        (record {
+          vram = now (vram .entry);
+          palette = now (palette .entry);
+          oam = now (oam .entry);
+          registers = now (registers .entry);
+        }))
+        line (now (entries .entry)) ⌝ }
+{
+    let dispcnt = read_dispcnt(registers);
+    let mapping = dispcnt.obj_mapping();
+    let tiles_start = obj_tiles_start(dispcnt.mode);
+    let mut obj: usize = 0;
+    while obj < OBJ_COUNT {
+        render_obj(
+            entries,
+            vram,
+            palette,
+            oam,
+            reading,
+            mapping,
+            tiles_start,
+            line,
+            obj,
+        );
+        obj += 1;
+    }
+}
