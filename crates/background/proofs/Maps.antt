@@ -104,7 +104,7 @@ regularTile-is vram palette control hofs vofs line t {b} {s} {tiles} {screen} {x
     let tile = tileColumn W (hofs / 8 + t) r (regularWidth-cases (size control)) r< in
     let first : x ≡ 8 * (hofs / 8 + t) % W = x-is ∙ ap (λ (n : ℕ). 8 * (hofs / 8 + t) % n) width in
     let next : regularX control (hofs / 8 * 8) (8 * t + r) ≡ x + r
-        = ap (λ (n : ℕ). n % W) column ∙ tile .next ∙ ap (λ (n : ℕ). n + r) (sym first) in
+    = ap (λ (n : ℕ). n % W) column ∙ tile .next ∙ ap (λ (n : ℕ). n + r) (sym first) in
     let whole : x % 8 ≡ 0 = ap (λ (n : ℕ). n % 8) first ∙ tile .whole in
     let pixel : (x + r) % 8 ≡ r = omega arith in
     ap rgb (cc (mapEntry-tile vram screen (s .width) x y r whole r<))

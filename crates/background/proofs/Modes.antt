@@ -64,14 +64,14 @@ module _ (vram palette registers : List ℕ) (references : References) (bg colum
   pub backgroundColor-affine : bgKind (mode (dispcnt registers)) bg ≡ Affine →
       backgroundColor vram palette registers references bg column line
       ≡ affineColor vram palette (bgcnt registers bg)
-        (referenceX references bg) (referenceY references bg) (pa registers bg) (pc registers bg) column
+      (referenceX references bg) (referenceY references bg) (pa registers bg) (pc registers bg) column
   unfolding backgroundColor kindColor
   backgroundColor-affine e = rw e
 
   pub backgroundColor-bitmap : bgKind (mode (dispcnt registers)) bg ≡ Bitmap →
       backgroundColor vram palette registers references bg column line
       ≡ bitmapColor vram palette (mode (dispcnt registers)) (displayFrameSelect (dispcnt registers)) (bgcnt registers bg)
-        (referenceX references bg) (referenceY references bg) (pa registers bg) (pc registers bg) column
+      (referenceX references bg) (referenceY references bg) (pa registers bg) (pc registers bg) column
   unfolding backgroundColor kindColor
   backgroundColor-bitmap e = rw e
 
@@ -83,15 +83,14 @@ module _ (vram palette registers : List ℕ) (references : References) (bg colum
 -- ---- the line of a background of each kind, as it is made
 
 module _ (vram palette registers : List ℕ) (references : References) (bg line : ℕ) {m control : ℕ} {kind : BgKind}
-  (kind-is : kind ≡ bgKind m bg) (m-is : m ≡ mode (dispcnt registers)) (control-is : control ≡ bgcnt registers bg) where
-
+    (kind-is : kind ≡ bgKind m bg) (m-is : m ≡ mode (dispcnt registers)) (control-is : control ≡ bgcnt registers bg) where
   pub regularLine-is : {h v : ℕ} {r : List Rgb15} → kind ≡ Regular → h ≡ hofs registers bg → v ≡ vofs registers bg →
       r ≡ tab (λ column. rgb (regularColor vram palette control h v column line)) 240 →
       r ≡ tab (λ column. rgb (backgroundColor vram palette registers references bg column line)) 240
   regularLine-is told h-is v-is r-is =
       r-is
       ∙ tab-cong _ _ 240 (λ column column<.
-        ap rgb (cc (backgroundColor-regular vram palette registers references bg column line (cc))))
+      ap rgb (cc (backgroundColor-regular vram palette registers references bg column line (cc))))
 
   pub affineLine-is : {x y : ℤ} {a c : ℕ} {r : List Rgb15} → kind ≡ Affine →
       x ≡ referenceX references bg → y ≡ referenceY references bg → a ≡ pa registers bg → c ≡ pc registers bg →
@@ -100,7 +99,7 @@ module _ (vram palette registers : List ℕ) (references : References) (bg line 
   affineLine-is told x-is y-is a-is c-is r-is =
       r-is
       ∙ tab-cong _ _ 240 (λ column column<.
-        ap rgb (cc (backgroundColor-affine vram palette registers references bg column line (cc))))
+      ap rgb (cc (backgroundColor-affine vram palette registers references bg column line (cc))))
 
   pub bitmapLine-is : {x y : ℤ} {frame a c : ℕ} {r : List Rgb15} → kind ≡ Bitmap → frame ≡ displayFrameSelect (dispcnt registers) →
       x ≡ referenceX references bg → y ≡ referenceY references bg → a ≡ pa registers bg → c ≡ pc registers bg →
@@ -109,11 +108,11 @@ module _ (vram palette registers : List ℕ) (references : References) (bg line 
   bitmapLine-is told frame-is x-is y-is a-is c-is r-is =
       r-is
       ∙ tab-cong _ _ 240 (λ column column<.
-        ap rgb (cc (backgroundColor-bitmap vram palette registers references bg column line (cc))))
+      ap rgb (cc (backgroundColor-bitmap vram palette registers references bg column line (cc))))
 
   pub absentLine-is : kind ≡ Absent →
       replicate 240 (rgb transparent) ≡ tab (λ column. rgb (backgroundColor vram palette registers references bg column line)) 240
   absentLine-is told =
       tab-replicate 240 (rgb transparent)
       ∙ tab-cong _ _ 240 (λ column column<.
-        ap rgb (sym (backgroundColor-absent vram palette registers references bg column line (cc))))
+      ap rgb (sym (backgroundColor-absent vram palette registers references bg column line (cc))))

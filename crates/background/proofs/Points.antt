@@ -67,11 +67,10 @@ unfolding transformBgPoint
 point-is a b step column q step-is q-is = ap (λ (z : ℤ). down256 (subℕ a (2 ^ 28) +ℤ pos column *ℤ z)) step-is ∙ q-is
 
 module _ (vram palette : List ℕ) (control rx ry pa pc dx dy column x y : ℕ)
-  (pa-is : signed16 pa ≡ subℕ dx (2 ^ 15)) (pc-is : signed16 pc ≡ subℕ dy (2 ^ 15))
-  (x-is : down256 (subℕ rx (2 ^ 28) +ℤ pos column *ℤ subℕ dx (2 ^ 15)) ≡ coordinate x)
-  (y-is : down256 (subℕ ry (2 ^ 28) +ℤ pos column *ℤ subℕ dy (2 ^ 15)) ≡ coordinate y)
-  {b : BgControl} (control-is : BgControlOf control b) where
-
+    (pa-is : signed16 pa ≡ subℕ dx (2 ^ 15)) (pc-is : signed16 pc ≡ subℕ dy (2 ^ 15))
+    (x-is : down256 (subℕ rx (2 ^ 28) +ℤ pos column *ℤ subℕ dx (2 ^ 15)) ≡ coordinate x)
+    (y-is : down256 (subℕ ry (2 ^ 28) +ℤ pos column *ℤ subℕ dy (2 ^ 15)) ≡ coordinate y)
+    {b : BgControl} (control-is : BgControlOf control b) where
   -- Of an affine background.
   pub affineColor-is : {side screen tiles c : ℕ} →
       side ≡ affineSide (b .size) → screen ≡ screenBlock (b .«screen_base_block») → tiles ≡ charBlock (b .«character_base_block») →

@@ -289,8 +289,8 @@ pub holds-rows : (ds : List Draw) (column : ℕ) → column < 240
     → Holds (pixelsPut 0 ds column) (cellAt entryCells (rowsAfter ds resetRow) column)
 holds-rows ds column column< =
     let entry-is : cellAt entryCells (rowsAfter ds resetRow) column ≡ entryAfter ds column resetEntry
-        = cellAt-rowsAfter ds resetRow column column<
-        ∙ ap (entryAfter ds column) (cellAt-rowOf entryCells _ 240 column column<) in
+    = cellAt-rowsAfter ds resetRow column column<
+    ∙ ap (entryAfter ds column) (cellAt-rowOf entryCells _ 240 column column<) in
     rw entry-is (holds-draws column ds)
 
 -- ---- there is one winner

@@ -4,6 +4,7 @@ use borrow.Author.Needs.{needs}
 use borrow.Author.Tests.{eq-eqb, ne-eqb}
 use Rattle.background.proofs.bitmap.page_ofs.Statement.{statement}
 use Rattle.background.proofs.bitmap.page_ofs.Tie as tie
+
 returns : tie.Need-returns
 returns c = simp (eq-eqb _ _ (c .if1 .taken)) (search needs)
 

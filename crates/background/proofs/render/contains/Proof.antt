@@ -4,6 +4,7 @@ use mathlib.Core.Path.{sym}
 use Rattle.signed.proofs.Remainder.{within-subℕ-below, within-subℕ-from}
 use Rattle.background.proofs.render.contains.Statement.{statement}
 use Rattle.background.proofs.render.contains.Tie as tie
+
 returns : tie.Need-returns
 returns c = sym (within-subℕ-below _ _ _ (c .if1 .taken))
 

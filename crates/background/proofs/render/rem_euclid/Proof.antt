@@ -9,6 +9,7 @@ use Rattle.signed.proofs.Remainder.{wrapped-subℕ}
 use Rattle.background.proofs.Points.{wrapped-inside}
 use Rattle.background.proofs.render.rem_euclid.Statement.{statement}
 use Rattle.background.proofs.render.rem_euclid.Tie as tie
+
 returns : tie.Need-returns
 returns c = let side = c .before .pre in (sym (wrapped-subℕ _ (side .0) _ _ (side .1)), mod-lt _ (side .0))
 

@@ -6,6 +6,7 @@ use borrow.Author.Needs.{needs}
 use Rattle.signed.proofs.Point.{point-is, column-bound}
 use Rattle.background.proofs.render.transform_bg_point.Statement.{statement}
 use Rattle.background.proofs.render.transform_bg_point.Tie as tie
+
 mul-result : tie.Need-mul-result
 mul-result c = omega (arith, column-bound _ _ (c .pre .2) (c .pre .1))
 

@@ -4,6 +4,7 @@ use native.Mathlib.Omega.{arith}
 use borrow.Author.Needs.{needs}
 use Rattle.background.proofs.text.flip_at.Statement.{statement}
 use Rattle.background.proofs.text.flip_at.Tie as tie
+
 returns : tie.Need-returns
 returns c = rw (c .if1 .taken) (search needs)
 

@@ -4,6 +4,7 @@ use borrow.Author.Needs.{needs}
 use Rattle.rows.specs.Tab.{tab}
 use Rattle.background.proofs.text.flip_row.Statement.{statement}
 use Rattle.background.proofs.text.flip_row.Tie as tie
+
 returns : tie.Need-returns
 unfolding tab
 returns c = rw (c .before .before .before .before .before .before .before .before .if1 .taken)

@@ -9,6 +9,7 @@ use Rattle.signed.proofs.Point.{point-sides}
 use Rattle.background.proofs.Points.{affineSide-bound}
 use Rattle.background.proofs.text.texture_size.Statement.{statement}
 use Rattle.background.proofs.text.texture_size.Tie as tie
+
 returns : tie.Need-returns
 returns c = rw (shl-exact {a = 128} 8 (c .args .size) 32 (omega arith) (omega arith)) (search (needs, point-sides, affineSide-bound))
 

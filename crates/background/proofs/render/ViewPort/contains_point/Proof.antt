@@ -3,6 +3,7 @@
 use borrow.Author.Needs.{needs}
 use Rattle.background.proofs.render.ViewPort.contains_point.Statement.{statement}
 use Rattle.background.proofs.render.ViewPort.contains_point.Tie as tie
+
 returns : tie.Need-returns
 returns c = cc
 

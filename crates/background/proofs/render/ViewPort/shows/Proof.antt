@@ -4,6 +4,7 @@ use borrow.Author.Needs.{needs}
 use Rattle.background.specs.Point.{shows}
 use Rattle.background.proofs.render.ViewPort.shows.Statement.{statement}
 use Rattle.background.proofs.render.ViewPort.shows.Tie as tie
+
 returns : tie.Need-returns
 unfolding shows
 returns c = cc
