@@ -1,10 +1,10 @@
 -- Laws of which sprites are drawn on a line. No contract cites this file. Assumes nothing.
-use Prim.Native.Nat.{ℕ, zero, suc, _+_, _*_, _%_, _≤_, _<_}
+use Prim.Native.Nat.{ℕ, zero, suc, _+_, _*_, _%_, _≤_}
 use native.Mathlib.Omega.{arith}
 use mathlib.Core.Path.{_≡_, refl, sym, ap, ap₂, _∙_}
 use mathlib.Core.Bool.{Bool, true, false, _&&_, and-false}
 use mathlib.Core.List.{List, [], _∷_}
-use lib.Dec.{leb, ltb}
+use lib.Dec.{leb}
 use lib.IntN.{subℕ}
 use lib.ListN.{getD}
 use borrow.Author.Tests.{le-leb, lt-ltb}
@@ -17,7 +17,7 @@ use Rattle.regs.specs.declared.reading.Reading.{Reading}
 use Rattle.obj.specs.Oam.{Attributes, attributes}
 use Rattle.obj.specs.Size.{heights, objHeight}
 use Rattle.obj.specs.Attrs.{objType, objAttrs, sprite}
-use Rattle.obj.specs.Place.{boxed, boxHeight, top, below, onLine}
+use Rattle.obj.specs.Place.{boxed, boxHeight, top, onLine}
 use Rattle.obj.specs.Tiles.{tileBase}
 use Rattle.obj.specs.Sprite.{isShown, isPermitted, drawn}
 use Rattle.obj.specs.declared.attrs.ObjAttrs.{ObjAttrs}
@@ -69,7 +69,8 @@ module _ (reading : Reading) (start : ℕ) (s : ObjAttrs) (line : ℕ) where
   drawn-missed e = rw (e, and-false (isShown (s .objtype) && isPermitted (s .objmode)))
 
   -- What lies in the box lies in any that is as high.
-  onLine-missed : (t height : ℕ) → top reading s ≡ subℕ t 96 → boxHeight s ≤ height → within (subℕ (line + 96) t) height ≡ false
+  onLine-missed : (t height : ℕ) → top reading s ≡ subℕ t 96 → boxHeight s ≤ height
+      → within (subℕ (line + 96) t) height ≡ false
       → onLine reading s line ≡ false
   unfolding onLine
   onLine-missed t height top-is h out = go (within (subℕ (line + 96) t) (boxHeight s)) refl
@@ -127,10 +128,12 @@ module _ (reading : Reading) (start : ℕ) (a : Attributes) (line : ℕ) where
 
 -- A sprite that its first halfword rules out is not drawn.
 pub drawn-first : (reading : Reading) (start line : ℕ) (oam : List ℕ) (n : ℕ) {h : ℕ} → h ≡ half oam (8 * n)
-    → ((second third : ℕ) → drawn reading start (objAttrs (record { first = h; second = second; third = third })) line ≡ false)
+    → ((second third : ℕ)
+    → drawn reading start (objAttrs (record { first = h; second = second; third = third })) line ≡ false)
     → drawn reading start (sprite oam n) line ≡ false
 unfolding attributes
 drawn-first reading start line oam n h-is out =
-    ap (λ h. drawn reading start (objAttrs (record { first = h; second = half oam (8 * n + 2); third = half oam (8 * n + 4) })) line)
-    (sym h-is)
-    ∙ out _ _
+    let second = half oam (8 * n + 2) in
+    let third = half oam (8 * n + 4) in
+    ap (λ h. drawn reading start (objAttrs (record { first = h; second = second; third = third })) line) (sym h-is)
+    ∙ out second third

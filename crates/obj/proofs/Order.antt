@@ -1,105 +1,33 @@
--- The order of pixels: the entry of a column holds the first pixel of least priority of all that draws put there, and its
--- window mark tells whether a window sprite had a pixel there. No contract cites this file. Assumes nothing.
+-- The order of pixels: the entry of a column holds the winner of all that draws put there, the first of least priority.
+-- No contract cites this file. Assumes nothing.
 use Prim.Native.Nat.{ℕ, zero, suc, _+_, _*_, _/_, _%_, _≤_, _<_}
 use native.Mathlib.Omega.{arith}
-use mathlib.Core.Path.{_≡_, refl, sym, ap, _∙_}
-use mathlib.Core.Bool.{Bool, true, false, not, cond, _&&_, _||_, or-true, or-false, or-assoc}
-use mathlib.Core.List.{
-  List,
-  [],
-  _∷_,
-  _++_,
-  append-nil,
-  append-assoc,
-  List·Memᴰ,
-  List·Memᴰ·head,
-  Memᴰ·append-left,
-  Memᴰ·append-right,
-  List·Memᴰ·append-cases,
-  List·Memᴰ·eq-of-singleton,
-  List·Memᴰ·not-nil,
-}
+use mathlib.Core.Path.{_≡_, refl, ap, _∙_}
+use mathlib.Core.Bool.{Bool, true, false, not, cond, _&&_, _||_, or-true, or-false}
+use mathlib.Core.List.{List, [], _∷_, _++_, append-nil, append-assoc}
+use mathlib.Core.List.{List·Memᴰ, List·Memᴰ·head, List·Memᴰ·not-nil, List·Memᴰ·append-cases, List·Memᴰ·eq-of-singleton}
+use mathlib.Core.List.{Memᴰ·append-left, Memᴰ·append-right}
 use mathlib.Core.Logic.{_⊎_, inl, inr, ⊎-elim}
-use lib.Dec.{eqb, ltb, leb}
-use borrow.Author.Tests.{ltb-true, ltb-false, lt-ltb, eqb-true, eq-eqb, leb-true, leb-false}
+use lib.Dec.{eqb, leb}
+use borrow.Author.Tests.{leb-true, leb-false}
 use Rattle.rgb15.specs.Colour.{isTransparent}
-use Rattle.signed.proofs.Order.{and-both}
 use Rattle.rows.specs.Cells.{cellAt}
 use Rattle.rows.proofs.Cells.{cellAt-rowOf}
 use Rattle.obj.specs.Attrs.{sprite}
 use Rattle.obj.specs.Sprite.{source, spriteColor}
-use Rattle.obj.specs.Entry.{entryCells, semiMark, resetEntry, resetRow}
+use Rattle.obj.specs.Entry.{entryCells, resetEntry, resetRow}
 use Rattle.obj.specs.Put.{passedOver, shownBy, windowed, written, putPixel, spriteStep, entryUpTo}
-use Rattle.obj.specs.Order.{
-  Draw,
-  Pixel,
-  isVisible,
-  isSemi,
-  isWindow,
-  isOpaque,
-  pixelOf,
-  pixelsUpTo,
-  pixelsPut,
-  windowUpTo,
-  windowPut,
-  isBefore,
-  Wins,
-  Shows,
-  Blank,
-  Holds,
-  none,
-  some,
-  entryAfter,
-}
+use Rattle.obj.specs.Order.{Draw, Pixel, isVisible, isSemi, isOpaque, pixelOf, pixelsUpTo, pixelsPut}
+use Rattle.obj.specs.Order.{isBefore, Wins, Shows, Holds, none, some, entryAfter, rowsAfter}
 use Rattle.obj.specs.declared.attrs.ObjMode.{ObjMode}
 use Rattle.obj.specs.declared.entry.Entry.{Entry}
 use Rattle.obj.proofs.Decode.{priority-bound}
-
--- ---- which of two pixels comes first
-
--- Pixel p was put earlier than sprite n of draw number i is.
-abbrev Earlier : ℕ → ℕ → Pixel → Type 0
-Earlier i n p = (p .draw < i) ⊎ ((p .draw ≡ i) × (p .sprite < n))
-
-module _ (p q : Pixel) where
-  isBefore-priority : p .priority < q .priority → isBefore p q ≡ true
-  unfolding isBefore
-  isBefore-priority h = rw (lt-ltb (p .priority) (q .priority) h)
-
-  -- Of equal priorities the earlier pixel comes first.
-  isBefore-tie : p .priority ≡ q .priority → Earlier (q .draw) (q .sprite) p → isBefore p q ≡ true
-  unfolding isBefore
-  isBefore-tie e (inl h) =
-      rw (eq-eqb (p .priority) (q .priority) e, lt-ltb (p .draw) (q .draw) h, or-true (ltb (p .priority) (q .priority)))
-  isBefore-tie e (inr h) =
-      rw (
-        eq-eqb (p .priority) (q .priority) e,
-        eq-eqb (p .draw) (q .draw) (h .0),
-        lt-ltb (p .sprite) (q .sprite) (h .1),
-        or-true (ltb (p .draw) (q .draw)),
-        or-true (ltb (p .priority) (q .priority)),
-      )
-
-  isBefore-earlier : p .priority ≤ q .priority → Earlier (q .draw) (q .sprite) p → isBefore p q ≡ true
-  isBefore-earlier h u = go (ltb (p .priority) (q .priority)) refl
-    where
-      go : (t : Bool) → ltb (p .priority) (q .priority) ≡ t → isBefore p q ≡ true
-      go true t = isBefore-priority (ltb-true (p .priority) (q .priority) t)
-      go false t = isBefore-tie (omega (arith, ltb-false (p .priority) (q .priority) t)) u
-
-  -- What comes first has no greater priority.
-  isBefore-le : isBefore p q ≡ true → p .priority ≤ q .priority
-  unfolding isBefore
-  isBefore-le e = go (ltb (p .priority) (q .priority)) refl
-    where
-      go : (t : Bool) → ltb (p .priority) (q .priority) ≡ t → p .priority ≤ q .priority
-      go true t = omega (arith, ltb-true (p .priority) (q .priority) t)
-      go false t = omega (arith, eqb-true (p .priority) (q .priority) (and-both _ _ (rw t at e) .0))
+use Rattle.obj.proofs.Before.{Earlier, isBefore-priority, isBefore-earlier, isBefore-le}
 
 -- ---- one pixel more
 
 -- Every pixel was put earlier than sprite n of draw number i is.
-abbrev AllEarlier : ℕ → ℕ → List Pixel → Type 0
+abbrev pub AllEarlier : ℕ → ℕ → List Pixel → Type 0
 AllEarlier i n ps = (p : Pixel) → List·Memᴰ p ps → Earlier i n p
 
 module _ (ps : List Pixel) (e : Entry) (q : Pixel) where
@@ -147,7 +75,7 @@ cond-same : {A : Type 0} (t : Bool) (a : A) → cond t a a ≡ a
 cond-same true a = refl
 cond-same false a = refl
 
--- What a pixel of an ordinary (0) or semi-transparent (1) sprite makes of an entry that shows nothing foremost.
+-- A pixel q of a sprite that is ordinary (semi is 0) or semi-transparent (semi is 1).
 module _ (ps : List Pixel) (e : Entry) (q : Pixel) (semi : ℕ) (semi≤ : semi ≤ 1) (semi-is : eqb semi 1 ≡ q .semi) where
   shows-shownBy : Shows q (shownBy semi (q .priority) (q .color) e)
   unfolding shownBy
@@ -198,7 +126,8 @@ module _ (ps : List Pixel) (e : Entry) (i n priority color : ℕ)
   holds-put ObjMode.Forbidden clear t =
       rw (append-nil ps, cond-same (leb (e .priority) priority || isTransparent color) e) holds
 
-  earlier-put : (visible : Bool) (q : Pixel) → q .draw ≡ i → q .sprite ≡ n → AllEarlier i (suc n) (ps ++ cond visible (q ∷ []) [])
+  earlier-put : (visible : Bool) (q : Pixel) → q .draw ≡ i → q .sprite ≡ n
+      → AllEarlier i (suc n) (ps ++ cond visible (q ∷ []) [])
   earlier-put visible q draw-is sprite-is p m =
       ⊎-elim
       (λ in-ps. ⊎-elim inl (λ same. inr (same .0, omega (arith, same .1))) (earlier p in-ps))
@@ -213,12 +142,13 @@ module _ (ps : List Pixel) (e : Entry) (i n priority color : ℕ)
 
 -- ---- the sprites of a draw, and draws one after another
 
-module _ (column : ℕ) where
-  -- What an entry holds, and that all of it was put earlier.
-  pub record Held (i n : ℕ) (ps : List Pixel) (e : Entry) : Type 0 where
-    pub holds : Holds ps e
-    pub earlier : AllEarlier i n ps
+-- An entry holds the winner of pixels that were all put earlier than sprite n of draw number i is.
+pub record Held (i n : ℕ) (ps : List Pixel) (e : Entry) : Type 0 where
+  pub holds : Holds ps e
+  pub earlier : AllEarlier i n ps
 
+module _ (column : ℕ) where
+  -- One sprite more.
   held-sprite : (i : ℕ) (d : Draw) (n : ℕ) (ps : List Pixel) (e : Entry) → Held i n ps e
       → Held i (suc n)
       (ps ++ cond (isVisible (sprite (d .memory .oam) n .objmode) && isOpaque d n column) (pixelOf i d n column ∷ []) [])
@@ -236,7 +166,8 @@ module _ (column : ℕ) where
             (isVisible (s .objmode) && not (isTransparent color)) _ refl refl;
       }
 
-  held-sprites : (i : ℕ) (d : Draw) (n : ℕ) (ps : List Pixel) (e : Entry) → Held i 0 ps e
+  -- The first n sprites of draw number i.
+  pub held-sprites : (i : ℕ) (d : Draw) (n : ℕ) (ps : List Pixel) (e : Entry) → Held i 0 ps e
       → Held i n (ps ++ pixelsUpTo i d n column) (entryUpTo (d .reading) (source (d .memory)) (d .line) n column e)
   unfolding pixelsUpTo entryUpTo
   held-sprites i d zero ps e held = rw (append-nil ps) held
@@ -292,37 +223,3 @@ holds-rows ds column column< =
     = cellAt-rowsAfter ds resetRow column column<
     ∙ ap (entryAfter ds column) (cellAt-rowOf entryCells _ 240 column column<) in
     rw entry-is (holds-draws column ds)
-
--- ---- there is one winner
-
-or-split : (a b : Bool) → (a || b) ≡ true → (a ≡ true) ⊎ (b ≡ true)
-or-split true b e = inl refl
-or-split false b e = inr e
-
-isBefore-same : (p q : Pixel) → p .priority ≡ q .priority → isBefore p q ≡ true → Earlier (q .draw) (q .sprite) p
-unfolding isBefore
-isBefore-same p q same e =
-    ⊎-elim
-    (λ t. absurd (omega (arith, ltb-true (p .priority) (q .priority) t)))
-    (λ t.
-    ⊎-elim
-    (λ h. inl (ltb-true (p .draw) (q .draw) h))
-    (λ h.
-    let both = and-both (eqb (p .draw) (q .draw)) (ltb (p .sprite) (q .sprite)) h in
-    inr (eqb-true (p .draw) (q .draw) (both .0), ltb-true (p .sprite) (q .sprite) (both .1)))
-    (or-split (ltb (p .draw) (q .draw)) _ (and-both (eqb (p .priority) (q .priority)) _ t .1)))
-    (or-split (ltb (p .priority) (q .priority)) _ e)
-
-isBefore-once : (p q : Pixel) → isBefore p q ≡ true → isBefore q p ≡ true → ⊥
-isBefore-once p q h u =
-    let same : p .priority ≡ q .priority = omega (arith, isBefore-le p q h, isBefore-le q p u) in
-    ⊎-elim
-    (λ a. ⊎-elim (λ b. omega arith) (λ b. omega (arith, b .0)) (isBefore-same q p (sym same) u))
-    (λ a. ⊎-elim (λ b. omega (arith, a .0)) (λ b. omega (arith, a .1, b .1)) (isBefore-same q p (sym same) u))
-    (isBefore-same p q same h)
-
-pub wins-once : (ps : List Pixel) (v w : Pixel) → Wins ps v → Wins ps w → v ≡ w
-wins-once ps v w a b =
-    ⊎-elim (λ same. same)
-    (λ w-first. ⊎-elim (λ same. sym same) (λ v-first. absurd (isBefore-once w v w-first v-first)) (a .first w (b .among)))
-    (b .first v (a .among))

@@ -37,7 +37,8 @@ module _ (mode : ObjMode) (priority : ℕ) where
     putPixel-none t = rw (sym (ap₂ _||_ passed-is clear-is) ∙ t)
 
     -- Where neither holds the pixel is written.
-    pub putPixel-some : {r : Entry} → (passed || clear) ≡ false → r ≡ written mode priority color e → r ≡ putPixel mode priority color e
+    pub putPixel-some : {r : Entry} → (passed || clear) ≡ false → r ≡ written mode priority color e
+        → r ≡ putPixel mode priority color e
     unfolding putPixel
     putPixel-some t w = rw (sym (ap₂ _||_ passed-is clear-is) ∙ t) w
 

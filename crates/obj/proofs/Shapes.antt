@@ -30,6 +30,7 @@ use Rattle.obj.specs.declared.attrs.ObjAttrs.{ObjAttrs}
 use Rattle.obj.specs.declared.attrs.ObjMode.{ObjMode}
 use Rattle.obj.specs.declared.attrs.ObjType.{ObjType}
 use Rattle.obj.specs.declared.entry.Entry.{Entry}
+use Rattle.obj.proofs.Before.{or-split}
 use Rattle.obj.proofs.Decode.{priority-bound}
 
 -- ---- an opaque colour has bit 15 clear
@@ -98,10 +99,6 @@ clean-sprite reading o line n column =
 
 -- ---- what a pixel makes of a well-shaped entry
 
-or-split : (a b : Bool) → (a || b) ≡ true → (a ≡ true) ⊎ (b ≡ true)
-or-split true b e = inl refl
-or-split false b e = inr e
-
 or-second : (a b : Bool) → (a || b) ≡ false → b ≡ false
 or-second true b e = absurd (let z : _≡_ {A = ℕ} 0 1 = cc in omega arith)
 or-second false b e = e
@@ -122,7 +119,11 @@ shape-of e t =
           (λ h.
           let blank = and-both (eqb (e .priority) 4 && eqb (e .color .0) transparent) (not (semiMark e)) h in
           let front = and-both (eqb (e .priority) 4) (eqb (e .color .0) transparent) (blank .0) in
-          inl (eqb-true (e .priority) 4 (front .0), eqb-true (e .color .0) transparent (front .1), not-true (semiMark e) (blank .1)))
+          inl (
+            eqb-true (e .priority) 4 (front .0),
+            eqb-true (e .color .0) transparent (front .1),
+            not-true (semiMark e) (blank .1),
+          ))
           (λ h.
           let front = and-both (leb (e .priority) 3) (leb (e .color .0) 0x7fff) h in
           inr (leb-true (e .priority) 3 (front .0), leb-true (e .color .0) 0x7fff (front .1)))

@@ -1,4 +1,4 @@
--- Laws of the pass over the sprites: a pass for each sprite over all columns is, at each column, a run through the sprites.
+-- Laws of the pass: a pass for each sprite over all columns is, at each column, a run through the sprites.
 -- No contract cites this file. Assumes nothing.
 use Prim.Native.Nat.{ℕ, _+_, _<_}
 use native.Mathlib.Numerals.{add-one}
@@ -8,7 +8,6 @@ use mathlib.Core.List.{List}
 use lib.ListN.{length, getD}
 use mir.Syntax.{w8}
 use mir.Val.{Fits}
-use Rattle.rgb15.specs.Colour.{transparent}
 use Rattle.rows.specs.Cells.{mapRow}
 use Rattle.rows.proofs.Cells.{mapRow-all, mapRow-cong, mapRow-same}
 use Rattle.memory.specs.Memory.{Memory}
@@ -29,7 +28,8 @@ use Rattle.obj.proofs.Entries.{exact-entryCells}
 use Rattle.obj.proofs.Pixels.{putPixel-transparent}
 
 -- The colours of a sprite, by its type.
-pub putRow-typed : (reading : Reading) (mapping : ObjMapping) (vram palette oam : List ℕ) (s : ObjAttrs) (line : ℕ) (entries : List ℕ)
+pub putRow-typed : (reading : Reading) (mapping : ObjMapping) (vram palette oam : List ℕ) (s : ObjAttrs) (line : ℕ)
+    (entries : List ℕ)
     {type : ObjType} {m : List ℕ} → s .objtype ≡ type
     → m ≡ putRow s (typedColor type reading mapping vram palette oam s line) entries
     → m ≡ putRow s (typedColor (s .objtype) reading mapping vram palette oam s line) entries

@@ -11,7 +11,6 @@ use Rattle.obj.specs.Place.{boxWidth}
 use Rattle.obj.specs.Color.{turn}
 use Rattle.obj.specs.Turn.{MatrixOf, pointAt, StartOf, TurnOf}
 use Rattle.obj.specs.declared.affine.AffineMatrix.{AffineMatrix}
-use Rattle.obj.specs.declared.affine.Turn.{Turn}
 use Rattle.obj.specs.declared.attrs.ObjAttrs.{ObjAttrs}
 
 -- A matrix's number, 2^15 larger, times a place of the box.

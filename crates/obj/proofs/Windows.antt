@@ -1,5 +1,5 @@
--- Laws of the window mark: it tells whether a window sprite had an opaque pixel, in this draw or an earlier one. No contract
--- cites this file. Assumes nothing.
+-- Laws of the window mark: it tells whether a window sprite had an opaque pixel, in this draw or an earlier one.
+-- No contract cites this file. Assumes nothing.
 use Prim.Native.Nat.{ℕ, zero, suc, _+_, _*_, _/_, _%_, _≤_}
 use native.Mathlib.Omega.{arith}
 use mathlib.Core.Path.{_≡_, refl, sym, ap, _∙_}
@@ -8,7 +8,7 @@ use mathlib.Core.List.{List, [], _∷_}
 use lib.Dec.{eqb, leb}
 use Rattle.rgb15.specs.Colour.{isTransparent}
 use Rattle.obj.specs.Attrs.{sprite}
-use Rattle.obj.specs.Sprite.{source, spriteColor}
+use Rattle.obj.specs.Sprite.{source}
 use Rattle.obj.specs.Entry.{windowMark, resetEntry}
 use Rattle.obj.specs.Put.{passedOver, shownBy, windowed, written, putPixel, spriteStep, entryUpTo}
 use Rattle.obj.specs.Order.{Draw, isWindow, isOpaque, windowUpTo, windowPut, entryAfter}
@@ -16,7 +16,8 @@ use Rattle.obj.specs.declared.attrs.ObjMode.{ObjMode}
 use Rattle.obj.specs.declared.entry.Entry.{Entry}
 
 -- A pixel that is shown leaves the window mark.
-windowMark-shownBy : (semi priority color : ℕ) (e : Entry) → semi ≤ 1 → windowMark (shownBy semi priority color e) ≡ windowMark e
+windowMark-shownBy : (semi priority color : ℕ) (e : Entry) → semi ≤ 1
+    → windowMark (shownBy semi priority color e) ≡ windowMark e
 unfolding shownBy
 windowMark-shownBy semi priority color e semi≤ =
     let mark : (e .marks / 2 * 2 + semi) / 2 % 2 ≡ e .marks / 2 % 2 = omega arith in

@@ -1,6 +1,5 @@
 -- A sprite decoded from its three halfwords (01, "Sprites"; GBATEK, "LCD OBJ - OAM Attributes"). Assumes nothing.
-use Prim.Native.Nat.{ℕ, _≤_, _<_}
-use mathlib.Core.Path.{_≡_}
+use Prim.Native.Nat.{ℕ, _≤_}
 use mathlib.Core.List.{List, [], _∷_}
 use lib.ListN.{getD}
 use Rattle.bits.specs.Bits.{bits, bit}

@@ -17,7 +17,7 @@ use Rattle.obj.specs.declared.attrs.ObjAttrs.{ObjAttrs}
 unfoldable pub flip : Bool → ℕ → ℕ → ℕ
 flip set side at = cond set (side - 1 - at) at
 
--- Normal sprites flip by bits 12 and 13 of the second halfword.
+-- A normal sprite's colour at a column: it flips by bits 12 and 13 of the second halfword.
 unfoldable pub normalColor : Reading → ObjMapping → List ℕ → List ℕ → ObjAttrs → ℕ → ℕ → ℕ
 normalColor reading mapping vram palette s line column =
     cond (within (across reading s column) (s .width))
@@ -26,7 +26,8 @@ normalColor reading mapping vram palette s line column =
     (flip (s .«v_flip») (s .height) (natAbs (below reading s line))))
     transparent
 
--- The shift by 8 rounds down, then half the sprite's own size is added.
+-- A coordinate of the point at an offset: the sum of both products is shifted by 8, which rounds down, then half the
+-- sprite's own size is added.
 unfoldable pub turn : ℤ → ℤ → ℤ → ℤ → ℕ → ℤ
 turn p q ix iy side = down256 (p *ℤ ix +ℤ q *ℤ iy) +ℤ pos (side / 2)
 
@@ -37,7 +38,7 @@ colorAt reading mapping vram palette s x y =
     (texel reading mapping vram palette s (natAbs x) (natAbs y))
     transparent
 
--- Affine offsets run from the box's middle.
+-- An affine sprite's colour at a column: offsets run from the box's middle, and it never flips.
 unfoldable pub affineColor : Reading → ObjMapping → List ℕ → List ℕ → Matrix → ObjAttrs → ℕ → ℕ → ℕ
 affineColor reading mapping vram palette m s line column =
     let ix = across reading s column -ℤ pos (boxWidth s / 2) in

@@ -18,7 +18,7 @@ use Rattle.obj.specs.declared.attrs.ObjAttrs.{ObjAttrs}
 use Rattle.obj.specs.declared.attrs.ObjMode.{ObjMode}
 use Rattle.obj.specs.declared.attrs.ObjType.{ObjType}
 
--- What the sprites of a line are drawn from: of display control, the mapping and the start of sprite tiles.
+-- What the sprites of a line are drawn from; the mapping and the start of sprite tiles are display control's.
 pub record Source : Type 0 where
   pub vram : List ℕ
   pub palette : List ℕ

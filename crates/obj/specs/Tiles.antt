@@ -1,4 +1,5 @@
--- A sprite's tiles (01, "Sprites"; GBATEK, "LCD OBJ - VRAM Character (Tile) Mapping", "LCD VRAM Overview"). Assumes nothing.
+-- A sprite's tiles (01, "Sprites"; GBATEK, "LCD OBJ - VRAM Character (Tile) Mapping", "LCD VRAM Overview").
+-- Assumes nothing.
 use Prim.Native.Nat.{ℕ, _+_, _*_, _/_, _%_}
 use mathlib.Core.Bool.{cond}
 use mathlib.Core.List.{List}

@@ -1,5 +1,5 @@
 -- An affine sprite's matrix and points as code has them, each larger by a bias (01, "Sprites"; GBATEK, "LCD OBJ - OAM
--- Rotation/Scaling Parameters"). Assumes nothing.
+-- Rotation/Scaling Parameters"). No public contract cites this file. Assumes nothing.
 use Prim.Native.Nat.{ℕ, _+_, _-_, _*_, _/_, _^_, _≤_, _<_}
 use mathlib.Core.Path.{_≡_}
 use lib.IntN.{ℤ, pos, subℕ, _-ℤ_}

@@ -1,5 +1,5 @@
-// A sprite's attributes, decoded (render/obj.rs: `ObjAttrs`, its enums and its bit fields). Where a reading is passed on, R
-// and H agree.
+// A sprite's attributes, decoded (render/obj.rs: `ObjAttrs`, its enums and its bit fields). R and H agree wherever a
+// reading is passed on.
 ghost use mathlib.Core.Path.{_≡_};
 ghost use mathlib.Core.Bool.{true, false};
 ghost use Prim.Native.Nat.{ℕ, _+_, _^_, _≤_, _<_};

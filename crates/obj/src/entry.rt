@@ -1,4 +1,4 @@
-// Object entries (gpu/mod.rs, `ObjBufferEntry`): a column's is four bytes of a lent row, which `entry_at` and `put_entry` alone
+// Object entries (gpu/mod.rs, `ObjBufferEntry`): four bytes of a lent row each, which `entry_at` and `put_entry` alone
 // read and write.
 ghost use mathlib.Core.Path.{_≡_};
 ghost use mathlib.Core.Bool.{cond};

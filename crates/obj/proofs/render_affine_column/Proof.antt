@@ -1,4 +1,4 @@
--- obj::render_affine_column meets its contract: where the sprite is passed over the entry stays, and else the calls give the colour at its point.
+-- obj::render_affine_column meets its contract: an entry that passes the sprite over stays, else the calls give the colour.
 -- Assumes nothing.
 use Prim.Native.Nat.{_^_}
 use mathlib.Core.Path.{ap₂, _∙_}
@@ -22,7 +22,10 @@ returns-2 c =
     let at = colored .before .before .before .before .before .before .before .before .before .before .args in
     putColumn-is (at .attrs) (at .entries .now) (at .column) (c .before .before .put-column .ensures)
     (colored .color-at .ensures
-    ∙ ap₂ (λ x y. colorAt (at .reading) (at .mapping) (at .vram .now) (at .palette .now) (at .attrs) (subℕ x (2 ^ 16)) (subℕ y (2 ^ 16)))
+    ∙ ap₂
+    (λ x y.
+    colorAt (at .reading) (at .mapping) (at .vram .now) (at .palette .now) (at .attrs)
+    (subℕ x (2 ^ 16)) (subℕ y (2 ^ 16)))
     (colored .before .before .point-at .ensures) (colored .before .point-at2 .ensures))
 
 pub render-affine-column-spec : {M : Type 1} → statement M

@@ -1,4 +1,4 @@
--- obj::render_affine_obj meets its contract: a turn puts the colour at its column's point, and the columns of the box are all that the sprite has.
+-- obj::render_affine_obj meets its contract: a turn puts the colour at its point, and no column outside the box has one.
 -- Assumes nothing.
 use Prim.Native.Nat.{_-_}
 use borrow.Author.Needs.{needs}
@@ -16,9 +16,6 @@ Inv-loop entries₀ vram palette oam attrs reading mapping line left start end t
 
 abbrev μ-loop : tie.MeasureT-loop
 μ-loop entries₀ vram palette oam attrs reading mapping line left start end turn column₀ entries column = end - column
-
-turn-line-requires : tie.Need-turn-line-requires Inv-loop μ-loop
-turn-line-requires c κs = search needs
 
 loop-holds : tie.Need-loop-holds Inv-loop μ-loop
 loop-holds c =
@@ -57,7 +54,7 @@ render-affine-obj-spec =
     (search needs)
     (search needs)
     (search needs)
-    turn-line-requires
+    (λ c κs. search needs)
     loop-holds
     (search needs)
     (search needs)

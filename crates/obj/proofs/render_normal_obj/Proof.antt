@@ -1,4 +1,4 @@
--- obj::render_normal_obj meets its contract: a turn puts the texel of its column, and the columns of the box are all that the sprite has.
+-- obj::render_normal_obj meets its contract: a turn puts its column's texel, and no column outside the box has a pixel.
 -- Assumes nothing.
 use Prim.Native.Nat.{_-_}
 use native.Mathlib.Omega.{arith}
@@ -17,9 +17,6 @@ Inv-loop entries₀ vram palette attrs reading mapping line left start end sprit
 abbrev μ-loop : tie.MeasureT-loop
 μ-loop entries₀ vram palette attrs reading mapping line left start end sprite-y column₀ entries column = end - column
 
-row-requires : tie.Need-row-requires Inv-loop μ-loop
-row-requires c κs = search needs
-
 flip-requires : tie.Need-flip-requires Inv-loop μ-loop
 flip-requires c κs =
     let start = c .before .before .before .before .before .before .before .before in
@@ -27,16 +24,8 @@ flip-requires c κs =
 
 loop-holds : tie.Need-loop-holds Inv-loop μ-loop
 loop-holds c =
-    let known = c .before .before .before .before .before .before .before .before in putPart-from (known .before .args .attrs) _ _ _ _ (search needs) (search needs) (known .slice-known .given)
-
-add-render-normal-column : tie.Need-add-render-normal-column Inv-loop μ-loop
-add-render-normal-column c = search needs
-
-sub-render-normal-column : tie.Need-sub-render-normal-column Inv-loop μ-loop
-sub-render-normal-column c = search needs
-
-render-normal-column-requires : tie.Need-render-normal-column-requires Inv-loop μ-loop
-render-normal-column-requires c κs = search needs
+    let known = c .before .before .before .before .before .before .before .before in
+    putPart-from (known .before .args .attrs) _ _ _ _ (search needs) (search needs) (known .slice-known .given)
 
 loop-again : tie.Need-loop-again Inv-loop μ-loop
 loop-again c =
@@ -69,12 +58,12 @@ render-normal-obj-spec =
     (search needs)
     (search needs)
     (search needs)
-    row-requires
+    (λ c κs. search needs)
     flip-requires
     loop-holds
-    add-render-normal-column
-    sub-render-normal-column
-    render-normal-column-requires
+    (λ c. search needs)
+    (λ c. search needs)
+    (λ c κs. search needs)
     (search needs)
     (search needs)
     loop-again

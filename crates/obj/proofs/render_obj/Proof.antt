@@ -1,9 +1,7 @@
--- obj::render_obj meets its contract: a sprite that is ruled out or not drawn leaves the row, and one that is drawn puts its colours.
+-- obj::render_obj meets its contract: a sprite that is not drawn leaves the row, and one that is puts its colours.
 -- Assumes nothing.
-use mathlib.Core.Bool.{true, false}
-use mathlib.Core.Path.{_≡_, sym, ap, _∙_}
+use mathlib.Core.Path.{sym, ap, _∙_}
 use borrow.Author.Needs.{needs}
-use Rattle.obj.specs.Attrs.{sprite}
 use Rattle.obj.specs.Sprite.{drawn}
 use Rattle.obj.proofs.Drawn.{drawn-onLine, drawn-first}
 use Rattle.obj.proofs.Steps.{step-none, step-drawn}
@@ -22,7 +20,8 @@ render-typed-obj-requires : tie.Need-render-typed-obj-requires
 render-typed-obj-requires c κs =
     let read = c .before .before .before .read-obj-attrs in
     let at = c .before .before .before .before .before .before .before .before .before .before .before .args in
-    let on = drawn-onLine (at .reading) (at .tiles-start) (read .result) (at .line) (sym (c .before .before .is-drawn .ensures) ∙ c .before .if2 .taken) in
+    let drew = sym (c .before .before .is-drawn .ensures) ∙ c .before .if2 .taken in
+    let on = drawn-onLine (at .reading) (at .tiles-start) (read .result) (at .line) drew in
     search needs
 
 returns-2 : tie.Need-returns-2
@@ -30,7 +29,8 @@ returns-2 c =
     let drew = c .before .before .before .before .before in
     let at = drew .before .before .before .before .before .before .before .before .before .args in
     step-drawn (at .reading) _ (at .line) (at .obj) (at .entries .now) (drew .before .read-obj-attrs .ensures .0)
-    (sym (drew .is-drawn .ensures) ∙ c .before .before .before .before .if2 .taken) (c .before .before .render-typed-obj .ensures)
+    (sym (drew .is-drawn .ensures) ∙ c .before .before .before .before .if2 .taken)
+    (c .before .before .render-typed-obj .ensures)
 
 returns-3 : tie.Need-returns-3
 returns-3 c =

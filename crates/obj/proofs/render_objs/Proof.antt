@@ -21,11 +21,13 @@ abbrev μ-loop : tie.MeasureT-loop
 
 loop-holds : tie.Need-loop-holds Inv-loop μ-loop
 loop-holds c =
-    composed-none entryCells (search needs) (λ k k<. exact-entryCells _ (c .before .before .before .before .before .before .before .slice-known .given) k) (entryUpTo-none _ _ _)
+    let known = c .before .before .before .before .before .before .before in
+    composed-none entryCells (search needs) (λ k k<. exact-entryCells _ (known .slice-known .given) k) (entryUpTo-none _ _ _)
 
 loop-again : tie.Need-loop-again Inv-loop μ-loop
 loop-again c =
-    composed-more entryCells _ (c .before .before .before .before .before .loop .inv) (search needs) (c .before .before .render-obj .ensures)
+    composed-more entryCells _ (c .before .before .before .before .before .loop .inv) (search needs)
+    (c .before .before .render-obj .ensures)
     (λ k k< e. entryUpTo-more _ _ _ _ k e)
 
 returns : tie.Need-returns Inv-loop μ-loop
@@ -34,7 +36,8 @@ returns c =
     let at = made .before .before .before .before .before .before .before .before .args in
     rowAfter-is (at .reading) (at .line) (at .entries .now) (search needs)
     (composed-all entryCells (c .before .loop .inv) (search needs))
-    (source-is _ (made .before .before .read-dispcnt .ensures) (made .before .obj-mapping .ensures) (made .obj-tiles-start .ensures))
+    (source-is _ (made .before .before .read-dispcnt .ensures) (made .before .obj-mapping .ensures)
+    (made .obj-tiles-start .ensures))
 
 pub render-objs-spec : {M : Type 1} → statement M
 render-objs-spec =

@@ -7,42 +7,37 @@ use Rattle.obj.proofs.Steps.{putRow-typed}
 use Rattle.obj.proofs.render_typed_obj.Statement.{statement}
 use Rattle.obj.proofs.render_typed_obj.Tie as tie
 
-render-normal-obj-requires : tie.Need-render-normal-obj-requires
-render-normal-obj-requires c κs = search needs
-
-render-affine-obj-requires : tie.Need-render-affine-obj-requires
-render-affine-obj-requires c κs = search needs
-
-render-affine-obj-requires-2 : tie.Need-render-affine-obj-requires-2
-render-affine-obj-requires-2 c κs = search needs
-
 returns : tie.Need-returns
 unfolding typedColor
 returns c =
     let known = c .before .before .before .before .before in
     let at = known .before .args in
-    putRow-typed (at .reading) (at .mapping) (at .vram .now) (at .palette .now) (at .oam .now) (at .attrs) (at .line) (at .entries .now)
+    putRow-typed (at .reading) (at .mapping) (at .vram .now) (at .palette .now) (at .oam .now) (at .attrs) (at .line)
+    (at .entries .now)
     (c .enum-told .given .1) (putRow-none (at .attrs) (at .entries .now) (known .slice-known .given))
 
 returns-2 : tie.Need-returns-2
 unfolding typedColor
 returns-2 c =
     let at = c .before .before .before .before .before .before .before .before .before .before .args in
-    putRow-typed (at .reading) (at .mapping) (at .vram .now) (at .palette .now) (at .oam .now) (at .attrs) (at .line) (at .entries .now)
+    putRow-typed (at .reading) (at .mapping) (at .vram .now) (at .palette .now) (at .oam .now) (at .attrs) (at .line)
+    (at .entries .now)
     (c .before .before .before .before .enum-told2 .given .1) (c .before .before .render-normal-obj .ensures)
 
 returns-3 : tie.Need-returns-3
 unfolding typedColor
 returns-3 c =
     let at = c .before .before .before .before .before .before .before .before .before .before .args in
-    putRow-typed (at .reading) (at .mapping) (at .vram .now) (at .palette .now) (at .oam .now) (at .attrs) (at .line) (at .entries .now)
+    putRow-typed (at .reading) (at .mapping) (at .vram .now) (at .palette .now) (at .oam .now) (at .attrs) (at .line)
+    (at .entries .now)
     (c .before .before .before .before .enum-told3 .given .1) (c .before .before .render-affine-obj .ensures)
 
 returns-4 : tie.Need-returns-4
 unfolding typedColor
 returns-4 c =
     let at = c .before .before .before .before .before .before .before .before .before .before .args in
-    putRow-typed (at .reading) (at .mapping) (at .vram .now) (at .palette .now) (at .oam .now) (at .attrs) (at .line) (at .entries .now)
+    putRow-typed (at .reading) (at .mapping) (at .vram .now) (at .palette .now) (at .oam .now) (at .attrs) (at .line)
+    (at .entries .now)
     (c .before .before .before .before .enum-told4 .given .1) (c .before .before .render-affine-obj2 .ensures)
 
 pub render-typed-obj-spec : {M : Type 1} → statement M
@@ -51,11 +46,11 @@ render-typed-obj-spec =
     (tie.spec
     (search needs)
     (search needs)
-    render-normal-obj-requires
+    (λ c κs. search needs)
     (search needs)
-    render-affine-obj-requires
+    (λ c κs. search needs)
     (search needs)
-    render-affine-obj-requires-2
+    (λ c κs. search needs)
     returns
     (search needs)
     returns-2

@@ -1,4 +1,4 @@
--- obj::affine::turn_line meets its contract: the calls give the matrix, the box and the row, and both coordinates of column 0.
+-- obj::affine::turn_line meets its contract: the calls give the matrix, the box's middle, the row and column 0.
 -- Assumes nothing.
 use Prim.Native.Nat.{_/_}
 use mathlib.Core.Path.{sym, ap₂}
@@ -8,14 +8,13 @@ use Rattle.obj.proofs.Turns.{turnOf-is}
 use Rattle.obj.proofs.affine.turn_line.Statement.{statement}
 use Rattle.obj.proofs.affine.turn_line.Tie as tie
 
-row-requires : tie.Need-row-requires
-row-requires c κs = search needs
-
 returns : tie.Need-returns
 returns c =
     let row = c .before .before .row in
     let height = c .before .before .before .box-height in
-    turnOf-is _ _ _ _ _ _ _ _ (c .before .before .before .before .before .get-affine-matrix .ensures) (c .before .before .before .before .box-width .ensures .0)
+    let matrix = c .before .before .before .before .before .get-affine-matrix in
+    let width = c .before .before .before .before .box-width in
+    turnOf-is _ _ _ _ _ _ _ _ (matrix .ensures) (width .ensures .0)
     (ap₂ (λ z h. z -ℤ pos (h / 2)) (row .ensures .0) (sym (height .ensures .0)))
     (c .before .turn-start .ensures) (c .turn-start2 .ensures)
 
@@ -26,7 +25,7 @@ turn-line-spec =
     (search needs)
     (search needs)
     (search needs)
-    row-requires
+    (λ c κs. search needs)
     (search needs)
     (search needs)
     returns)

@@ -1,4 +1,4 @@
--- obj::attrs::is_ruled_out meets its contract: a sprite of type 2 is hidden, and a line that misses the tallest box misses the sprite's.
+-- obj::attrs::is_ruled_out meets its contract: type 2 is hidden, and a line that misses the tallest box misses the sprite's.
 -- Assumes nothing.
 use native.Mathlib.Omega.{arith}
 use mathlib.Core.Path.{sym, _∙_}

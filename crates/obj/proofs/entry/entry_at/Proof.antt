@@ -6,7 +6,9 @@ use Rattle.obj.proofs.entry.entry_at.Statement.{statement}
 use Rattle.obj.proofs.entry.entry_at.Tie as tie
 
 returns : tie.Need-returns
-returns c = let known = c .before in entry-of-word _ (known .shared-slice-known .given) (known .before .args .k) (c .word-at .ensures)
+returns c =
+    let known = c .before in
+    entry-of-word _ (known .shared-slice-known .given) (known .before .args .k) (c .word-at .ensures)
 
 pub entry-at-spec : {M : Type 1} → statement M
 entry-at-spec =

@@ -1,4 +1,4 @@
--- obj::attrs::ObjAttrs::from meets its contract: each field is its bits, and the calls' are what they ensure.
+-- obj::attrs::ObjAttrs::from meets its contract: each field is its bits, or what a call ensures of them.
 -- Assumes nothing.
 use borrow.Author.Needs.{needs}
 use Rattle.obj.proofs.Decode.{objAttrs-ext}

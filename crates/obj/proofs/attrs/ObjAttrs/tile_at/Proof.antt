@@ -1,10 +1,8 @@
--- obj::attrs::ObjAttrs::tile_at meets its contract: it computes as tileAt does, and at most 14,784 bytes lie before a tile.
+-- obj::attrs::ObjAttrs::tile_at meets its contract: it computes as tileAt does, and no tile lies past the end.
 -- Assumes nothing.
 use Prim.Native.Nat.{_+_, _*_, _/_, _≤_}
 use native.Mathlib.Omega.{arith}
-use mathlib.Core.Path.{_≡_}
 use borrow.Author.Needs.{needs}
-use Rattle.memory.specs.Tiles.{tileSize}
 use Rattle.obj.specs.Tiles.{tileAt}
 use Rattle.obj.proofs.Addresses.{tileSize-bound, rows-bound, tiles-bound}
 use Rattle.obj.proofs.attrs.ObjAttrs.tile_at.Statement.{statement}
@@ -18,7 +16,8 @@ bounds : (c : tie.After-tile-base)
 bounds c =
     let at = c .before .before .before .args in
     let small = c .before .tile-array-width .ensures .1 in
-    let size≤ : c .before .before .tile-size .result ≤ 64 = rw (c .before .before .tile-size .ensures) (tileSize-bound (at .self .format)) in
+    let size = c .before .before .tile-size in
+    let size≤ : size .result ≤ 64 = rw (size .ensures) (tileSize-bound (at .self .format)) in
     (rows-bound _ (at .y) small (omega arith), tiles-bound _ (at .y) small (omega arith) _ (at .x) size≤ (omega arith))
 
 mul-result : tie.Need-mul-result
