@@ -10,7 +10,7 @@ use Rattle.memory.specs.declared.PixelFormat.{PixelFormat}
 use Rattle.memory.specs.declared.PixelFormat.the-variants.{BPP4, BPP8}
 use Rattle.regs.specs.declared.ObjMapping.{ObjMapping}
 use Rattle.regs.specs.declared.reading.Reading.{Reading}
-use Rattle.obj.specs.Tiles.{tileAt, texel}
+use Rattle.obj.specs.Tiles.{tileBase, tileRow, tileAt, texel}
 use Rattle.obj.specs.declared.attrs.ObjAttrs.{ObjAttrs}
 
 -- A tile is at most 64 bytes.
@@ -28,6 +28,15 @@ module _ (row y : ℕ) (row≤ : row ≤ 32) (y< : y < 64) where
   tiles-bound size x size≤ x< =
       let tiles : x / 8 + row * (y / 8) ≤ 231 = omega (arith, rows-bound) in
       omega (arith, mul-le-mul size≤ tiles)
+
+-- A tile whose base, size and row were found.
+pub tileAt-is : (reading : Reading) (mapping : ObjMapping) (s : ObjAttrs) (x y : ℕ) {base size row : ℕ}
+    → base ≡ tileBase reading s
+    → size ≡ tileSize (s .format)
+    → row ≡ tileRow mapping (s .format) (s .width)
+    → base + size * (x / 8 + row * (y / 8)) ≡ tileAt reading mapping s x y
+unfolding tileAt
+tileAt-is reading mapping s x y p q r = λ i. p i + q i * (x / 8 + r i * (y / 8))
 
 -- A pixel whose address, index and bank were found.
 pub texel-is : (reading : Reading) (mapping : ObjMapping) (vram palette : List ℕ) (s : ObjAttrs) (x y : ℕ)

@@ -42,6 +42,14 @@ module _ (mode : ObjMode) (priority : ℕ) where
     unfolding putPixel
     putPixel-some t w = rw (sym (ap₂ _||_ passed-is clear-is) ∙ t) w
 
+-- An entry that was read, changed by a pixel and put back.
+pub putColumn-made : (s : ObjAttrs) (color : ℕ) (entries : List ℕ) (column : ℕ) {e r : Entry} {m : List ℕ}
+    → e ≡ cellAt entryCells entries column → r ≡ putPixel (s .objmode) (s .priority) color e
+    → m ≡ putCell entryCells entries column r
+    → m ≡ putColumn s color entries column
+putColumn-made s color entries column e-is r-is m-is =
+    m-is ∙ ap (putCell entryCells entries column) (r-is ∙ ap (putPixel (s .objmode) (s .priority) color) e-is)
+
 -- A colour that was put is that of the sprite.
 pub putColumn-is : (s : ObjAttrs) (entries : List ℕ) (column : ℕ) {m : List ℕ} {z color : ℕ}
     → m ≡ putColumn s z entries column → z ≡ color → m ≡ putColumn s color entries column

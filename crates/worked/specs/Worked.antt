@@ -3,6 +3,7 @@ use mathlib.Core.Path.{_≡_, refl}
 use mathlib.Core.Bool.{true, false}
 use mathlib.Core.List.{[], _∷_}
 use lib.Dec.{leb}
+use lib.IntN.{pos, negℤ}
 use Rattle.rows.specs.Tab.{tab}
 use Rattle.rgb15.specs.Colour.{toRgb24, isTransparent, blendChannel}
 use Rattle.memory.specs.Memory.{half}
@@ -11,9 +12,17 @@ use Rattle.regs.specs.Reading.{counted}
 use Rattle.regs.specs.Windows.{farEdge, inColumns}
 use Rattle.background.specs.Regular.{regularX, regularY, mapBlock, mapOffset}
 use Rattle.background.specs.Bitmap.{bitmapPixel}
+use Rattle.obj.specs.Place.{xOf, yOf}
 
 -- Every example, in the document's order.
 pub record Table : Type 0 where
+  -- Y 159, 160, 255 give 159, -96, -1. X 239, 240, 511 give 239, -272, -1.
+  pub y-last : yOf 159 ≡ pos 159
+  pub y-first-above : yOf 160 ≡ negℤ (pos 96)
+  pub y-just-above : yOf 255 ≡ negℤ (pos 1)
+  pub x-last : xOf 239 ≡ pos 239
+  pub x-first-before : xOf 240 ≡ negℤ (pos 272)
+  pub x-just-before : xOf 511 ≡ negℤ (pos 1)
   -- Channels 10 and 20, weights 8 and 8: 15. 31 and 31, 16 and 16: 31.
   pub halves : blendChannel 10 20 8 8 ≡ 15
   pub capped : blendChannel 31 31 16 16 ≡ 31
@@ -37,8 +46,14 @@ pub record Table : Type 0 where
   pub beyond : tab (inColumns 250 5) 240 ≡ tab (λ _. false) 240
 
 pub table : Table
-unfolding blendChannel counted farEdge tab half bitmapPixel
+unfolding yOf xOf blendChannel counted farEdge tab half bitmapPixel
 table = record {
+  y-last = refl;
+  y-first-above = refl;
+  y-just-above = refl;
+  x-last = refl;
+  x-first-before = refl;
+  x-just-before = refl;
   halves = refl;
   capped = refl;
   blacker = refl;

@@ -42,8 +42,8 @@ pub color-at-spec : {M : Type 1} → statement M
 color-at-spec =
     tie.close
     (tie.spec
-    (search needs)
-    (search needs)
+    (λ c κs. omega arith)
+    (λ c κs. omega arith)
     sub-read-texel
     sub-read-texel-2
     read-texel-requires

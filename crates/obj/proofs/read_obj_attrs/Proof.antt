@@ -1,5 +1,6 @@
 -- obj::read_obj_attrs meets its contract: the three reads are the halfwords of attributes.
 -- Assumes nothing.
+use native.Mathlib.Omega.{arith}
 use borrow.Author.Needs.{needs}
 use Rattle.obj.proofs.Decode.{sprite-is}
 use Rattle.obj.proofs.read_obj_attrs.Statement.{statement}
@@ -12,11 +13,11 @@ pub read-obj-attrs-spec : {M : Type 1} → statement M
 read-obj-attrs-spec =
     tie.close
     (tie.spec
-    (search needs)
-    (search needs)
-    (search needs)
-    (search needs)
-    (search needs)
-    (search needs)
-    (search needs)
+    (λ c. omega arith)
+    (λ c κs. omega arith)
+    (λ c. omega arith)
+    (λ c κs. omega arith)
+    (λ c. omega arith)
+    (λ c κs. omega arith)
+    (λ c κs. omega arith)
     returns)

@@ -1,5 +1,6 @@
 -- obj::read_texel meets its contract: the calls give the address, the index and the bank of texel.
 -- Assumes nothing.
+use native.Mathlib.Omega.{arith}
 use borrow.Author.Needs.{needs}
 use Rattle.obj.proofs.Addresses.{texel-is}
 use Rattle.obj.proofs.read_texel.Statement.{statement}
@@ -12,8 +13,8 @@ pub read-texel-spec : {M : Type 1} → statement M
 read-texel-spec =
     tie.close
     (tie.spec
-    (search needs)
-    (search needs)
-    (search needs)
-    (search needs)
+    (λ c κs. omega arith)
+    (λ c κs. omega arith)
+    (λ c κs. omega arith)
+    (λ c κs. omega arith)
     returns)

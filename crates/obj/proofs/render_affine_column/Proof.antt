@@ -3,7 +3,7 @@
 use Prim.Native.Nat.{_^_}
 use mathlib.Core.Path.{ap₂, _∙_}
 use lib.IntN.{subℕ}
-use borrow.Author.Needs.{needs}
+use native.Mathlib.Omega.{arith}
 use Rattle.obj.specs.Color.{colorAt}
 use Rattle.obj.proofs.Pixels.{putColumn-is, putColumn-passed}
 use Rattle.obj.proofs.render_affine_column.Statement.{statement}
@@ -32,13 +32,13 @@ pub render-affine-column-spec : {M : Type 1} → statement M
 render-affine-column-spec =
     tie.close
     (tie.spec
-    (search needs)
-    (search needs)
-    (search needs)
+    (λ c κs. omega arith)
+    (λ c κs. omega arith)
+    (λ c. omega arith)
     returns
-    (search needs)
-    (search needs)
-    (search needs)
-    (search needs)
-    (search needs)
+    (λ c κs. omega arith)
+    (λ c κs. omega arith)
+    (λ c κs. omega arith)
+    (λ c κs. omega arith)
+    (λ c. omega arith)
     returns-2)

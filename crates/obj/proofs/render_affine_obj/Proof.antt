@@ -1,6 +1,7 @@
 -- obj::render_affine_obj meets its contract: a turn puts the colour at its point, and no column outside the box has one.
 -- Assumes nothing.
 use Prim.Native.Nat.{_-_}
+use native.Mathlib.Omega.{arith}
 use borrow.Author.Needs.{needs}
 use Rattle.obj.specs.Color.{affineColor}
 use Rattle.obj.specs.Oam.{matrix}
@@ -20,7 +21,7 @@ abbrev μ-loop : tie.MeasureT-loop
 loop-holds : tie.Need-loop-holds Inv-loop μ-loop
 loop-holds c =
     let known = c .before .before .before .before .before .before .before .before in
-    putPart-from (known .before .args .attrs) _ _ _ _ (search needs) (search needs) (known .slice-known .given)
+    putPart-from (known .before .args .attrs) _ _ _ _ (omega arith) (omega arith) (known .slice-known .given)
 
 loop-again : tie.Need-loop-again Inv-loop μ-loop
 loop-again c =
@@ -28,20 +29,20 @@ loop-again c =
     let made = turn .before .before in
     let at = made .before .before .before .before .before .before .before .before .before .args in
     let left = made .before .before .before .before .left in
-    putPart-inside (at .attrs) _ (turn .before .loop .inv) (search needs) (search needs)
+    putPart-inside (at .attrs) _ (turn .before .loop .inv) (omega arith) (omega arith)
     (c .before .before .render-affine-column .ensures)
     (affineColor-inside (at .reading) (at .mapping) (at .vram .now) (at .palette .now) (at .attrs) (at .line)
     (left .result) (left .ensures .0) _ _ (made .turn-line .ensures)
-    (turn .before .loop .column) (search needs) (search needs) (search needs))
+    (turn .before .loop .column) (omega arith) (omega arith) (omega arith))
 
 returns : tie.Need-returns Inv-loop μ-loop
 returns c =
     let made = c .before .before in
     let at = made .before .before .before .before .before .before .before .before .before .args in
     let left = made .before .before .before .before .left in
-    putPart-to (at .attrs) _ (c .before .loop .inv) (search needs)
+    putPart-to (at .attrs) _ (c .before .loop .inv) (omega arith)
     (affineColor-outside (at .reading) (at .mapping) (at .vram .now) (at .palette .now) (at .attrs) (at .line)
-    (left .result) (left .ensures .0) _ (search needs) (search needs))
+    (left .result) (left .ensures .0) _ (omega arith) (omega arith))
 
 pub render-affine-obj-spec : {M : Type 1} → statement M
 render-affine-obj-spec =
@@ -49,18 +50,18 @@ render-affine-obj-spec =
     (tie.spec
     Inv-loop
     μ-loop
-    (search needs)
-    (search needs)
-    (search needs)
-    (search needs)
-    (search needs)
+    (λ c κs. omega arith)
+    (λ c κs. omega arith)
+    (λ c κs. omega arith)
+    (λ c. omega arith)
+    (λ c κs. omega arith)
     (λ c κs. search needs)
     loop-holds
-    (search needs)
-    (search needs)
-    (search needs)
-    (search needs)
-    (search needs)
+    (λ c. omega arith)
+    (λ c. omega arith)
+    (λ c κs. omega arith)
+    (λ c. omega arith)
+    (λ c. omega arith)
     loop-again
-    (search needs)
+    (λ c. omega arith)
     returns)

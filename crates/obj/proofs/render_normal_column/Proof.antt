@@ -1,18 +1,27 @@
 -- obj::render_normal_column meets its contract: the texel is that of the flipped column.
 -- Assumes nothing.
-use borrow.Author.Needs.{needs}
+use mathlib.Core.Path.{ap, _∙_}
+use native.Mathlib.Omega.{arith}
+use Rattle.obj.specs.Tiles.{texel}
+use Rattle.obj.proofs.Pixels.{putColumn-is}
 use Rattle.obj.proofs.render_normal_column.Statement.{statement}
 use Rattle.obj.proofs.render_normal_column.Tie as tie
 
 returns : tie.Need-returns
-returns c = cc
+returns c =
+    let colored = c .before .before .before .before in
+    let at = colored .before .before .before .before .before .args in
+    putColumn-is (at .attrs) (at .entries .now) (at .column) (c .before .before .put-column .ensures)
+    (colored .read-texel .ensures
+    ∙ ap (λ x. texel (at .reading) (at .mapping) (at .vram .now) (at .palette .now) (at .attrs) x (at .sprite-y))
+    (colored .before .flip .ensures .0))
 
 pub render-normal-column-spec : {M : Type 1} → statement M
 render-normal-column-spec =
     tie.close
     (tie.spec
-    (search needs)
-    (search needs)
-    (search needs)
-    (search needs)
+    (λ c κs. omega arith)
+    (λ c κs. omega arith)
+    (λ c κs. omega arith)
+    (λ c. omega arith)
     returns)

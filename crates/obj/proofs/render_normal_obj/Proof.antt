@@ -25,7 +25,7 @@ flip-requires c κs =
 loop-holds : tie.Need-loop-holds Inv-loop μ-loop
 loop-holds c =
     let known = c .before .before .before .before .before .before .before .before in
-    putPart-from (known .before .args .attrs) _ _ _ _ (search needs) (search needs) (known .slice-known .given)
+    putPart-from (known .before .args .attrs) _ _ _ _ (omega arith) (omega arith) (known .slice-known .given)
 
 loop-again : tie.Need-loop-again Inv-loop μ-loop
 loop-again c =
@@ -33,20 +33,20 @@ loop-again c =
     let made = turn .before .before in
     let at = made .before .before .before .before .before .before .before .before .before .args in
     let left = made .before .before .before .before .before .left in
-    putPart-inside (at .attrs) _ (turn .before .loop .inv) (search needs) (search needs)
+    putPart-inside (at .attrs) _ (turn .before .loop .inv) (omega arith) (omega arith)
     (c .before .before .render-normal-column .ensures)
     (normalColor-inside (at .reading) (at .mapping) (at .vram .now) (at .palette .now) (at .attrs) (at .line)
     (left .result) (left .ensures .0) (made .before .row .result) (turn .before .loop .column)
-    (made .before .row .ensures .0) (made .flip .ensures .0) (search needs) (search needs))
+    (made .before .row .ensures .0) (made .flip .ensures .0) (omega arith) (omega arith))
 
 returns : tie.Need-returns Inv-loop μ-loop
 returns c =
     let made = c .before .before in
     let at = made .before .before .before .before .before .before .before .before .before .args in
     let left = made .before .before .before .before .before .left in
-    putPart-to (at .attrs) _ (c .before .loop .inv) (search needs)
+    putPart-to (at .attrs) _ (c .before .loop .inv) (omega arith)
     (normalColor-outside (at .reading) (at .mapping) (at .vram .now) (at .palette .now) (at .attrs) (at .line)
-    (left .result) (left .ensures .0) (search needs) (search needs))
+    (left .result) (left .ensures .0) (omega arith) (omega arith))
 
 pub render-normal-obj-spec : {M : Type 1} → statement M
 render-normal-obj-spec =
@@ -54,18 +54,18 @@ render-normal-obj-spec =
     (tie.spec
     Inv-loop
     μ-loop
-    (search needs)
-    (search needs)
-    (search needs)
-    (search needs)
+    (λ c κs. omega arith)
+    (λ c κs. omega arith)
+    (λ c. omega arith)
+    (λ c κs. omega arith)
     (λ c κs. search needs)
     flip-requires
     loop-holds
-    (λ c. search needs)
-    (λ c. search needs)
-    (λ c κs. search needs)
-    (search needs)
-    (search needs)
+    (λ c. omega arith)
+    (λ c. omega arith)
+    (λ c κs. omega arith)
+    (λ c. omega arith)
+    (λ c. omega arith)
     loop-again
-    (search needs)
+    (λ c. omega arith)
     returns)

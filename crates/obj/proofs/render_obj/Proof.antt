@@ -1,6 +1,7 @@
 -- obj::render_obj meets its contract: a sprite that is not drawn leaves the row, and one that is puts its colours.
 -- Assumes nothing.
 use mathlib.Core.Path.{sym, ap, _∙_}
+use native.Mathlib.Omega.{arith}
 use borrow.Author.Needs.{needs}
 use Rattle.obj.specs.Sprite.{drawn}
 use Rattle.obj.proofs.Drawn.{drawn-onLine, drawn-first}
@@ -45,13 +46,13 @@ pub render-obj-spec : {M : Type 1} → statement M
 render-obj-spec =
     tie.close
     (tie.spec
-    (search needs)
-    (search needs)
-    (search needs)
+    (λ c. omega arith)
+    (λ c κs. omega arith)
+    (λ c κs. omega arith)
     returns
-    (search needs)
-    (search needs)
+    (λ c κs. omega arith)
+    (λ c κs. omega arith)
     render-typed-obj-requires
-    (search needs)
+    (λ c. omega arith)
     returns-2
     returns-3)

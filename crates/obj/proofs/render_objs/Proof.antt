@@ -1,7 +1,7 @@
 -- obj::render_objs meets its contract: each turn is one sprite's step at every column.
 -- Assumes nothing.
 use Prim.Native.Nat.{_-_}
-use borrow.Author.Needs.{needs}
+use native.Mathlib.Omega.{arith}
 use Rattle.rows.proofs.Passed.{Composed, composed-none, composed-more, composed-all}
 use Rattle.obj.specs.Entry.{entryCells}
 use Rattle.obj.specs.Put.{entryUpTo}
@@ -22,11 +22,11 @@ abbrev μ-loop : tie.MeasureT-loop
 loop-holds : tie.Need-loop-holds Inv-loop μ-loop
 loop-holds c =
     let known = c .before .before .before .before .before .before .before in
-    composed-none entryCells (search needs) (λ k k<. exact-entryCells _ (known .slice-known .given) k) (entryUpTo-none _ _ _)
+    composed-none entryCells (omega arith) (λ k k<. exact-entryCells _ (known .slice-known .given) k) (entryUpTo-none _ _ _)
 
 loop-again : tie.Need-loop-again Inv-loop μ-loop
 loop-again c =
-    composed-more entryCells _ (c .before .before .before .before .before .loop .inv) (search needs)
+    composed-more entryCells _ (c .before .before .before .before .before .loop .inv) (omega arith)
     (c .before .before .render-obj .ensures)
     (λ k k< e. entryUpTo-more _ _ _ _ k e)
 
@@ -34,8 +34,8 @@ returns : tie.Need-returns Inv-loop μ-loop
 returns c =
     let made = c .before .before in
     let at = made .before .before .before .before .before .before .before .before .args in
-    rowAfter-is (at .reading) (at .line) (at .entries .now) (search needs)
-    (composed-all entryCells (c .before .loop .inv) (search needs))
+    rowAfter-is (at .reading) (at .line) (at .entries .now) (omega arith)
+    (composed-all entryCells (c .before .loop .inv) (omega arith))
     (source-is _ (made .before .before .read-dispcnt .ensures) (made .before .obj-mapping .ensures)
     (made .obj-tiles-start .ensures))
 
@@ -45,13 +45,13 @@ render-objs-spec =
     (tie.spec
     Inv-loop
     μ-loop
-    (search needs)
-    (search needs)
-    (search needs)
+    (λ c κs. omega arith)
+    (λ c κs. omega arith)
+    (λ c κs. omega arith)
     loop-holds
-    (search needs)
-    (search needs)
-    (search needs)
+    (λ c κs. omega arith)
+    (λ c. omega arith)
+    (λ c. omega arith)
     loop-again
-    (search needs)
+    (λ c. omega arith)
     returns)

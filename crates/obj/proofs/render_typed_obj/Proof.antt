@@ -1,5 +1,6 @@
 -- obj::render_typed_obj meets its contract: each arm is the clause of typedColor.
 -- Assumes nothing.
+use native.Mathlib.Omega.{arith}
 use borrow.Author.Needs.{needs}
 use Rattle.obj.specs.Sprite.{typedColor}
 use Rattle.obj.proofs.Pixels.{putRow-none}
@@ -44,17 +45,17 @@ pub render-typed-obj-spec : {M : Type 1} → statement M
 render-typed-obj-spec =
     tie.close
     (tie.spec
-    (search needs)
-    (search needs)
+    (λ c. omega arith)
+    (λ c. omega arith)
     (λ c κs. search needs)
-    (search needs)
+    (λ c. omega arith)
     (λ c κs. search needs)
-    (search needs)
+    (λ c. omega arith)
     (λ c κs. search needs)
     returns
-    (search needs)
+    (λ c. omega arith)
     returns-2
-    (search needs)
+    (λ c. omega arith)
     returns-3
-    (search needs)
+    (λ c. omega arith)
     returns-4)

@@ -3,6 +3,7 @@
 use Prim.Native.Nat.{_/_}
 use mathlib.Core.Path.{sym, ap₂}
 use lib.IntN.{pos, _-ℤ_}
+use native.Mathlib.Omega.{arith}
 use borrow.Author.Needs.{needs}
 use Rattle.obj.proofs.Turns.{turnOf-is}
 use Rattle.obj.proofs.affine.turn_line.Statement.{statement}
@@ -22,10 +23,10 @@ pub turn-line-spec : {M : Type 1} → statement M
 turn-line-spec =
     tie.close
     (tie.spec
-    (search needs)
-    (search needs)
-    (search needs)
+    (λ c κs. omega arith)
+    (λ c κs. omega arith)
+    (λ c κs. omega arith)
     (λ c κs. search needs)
-    (search needs)
-    (search needs)
+    (λ c κs. omega arith)
+    (λ c κs. omega arith)
     returns)

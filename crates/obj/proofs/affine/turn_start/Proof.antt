@@ -51,14 +51,14 @@ pub turn-start-spec : {M : Type 1} → statement M
 turn-start-spec =
     tie.close
     (tie.spec
-    (search needs)
+    (λ c. omega arith)
     mul-added-2
     add-added
-    (search needs)
+    (λ c. omega arith)
     add-added-2
     add-added-3
     mul-taken
-    (search needs)
+    (λ c. omega arith)
     add-taken
     mul-taken-3
     add-taken-2

@@ -26,15 +26,15 @@ pub put-entry-spec : {M : Type 1} → statement M
 put-entry-spec =
     tie.close
     (tie.spec
-    (search needs)
-    (search needs)
-    (search needs)
-    (search needs)
-    (search needs)
+    (λ c. omega arith)
+    (λ c. omega arith)
+    (λ c. omega arith)
+    (λ c. omega arith)
+    (λ c. omega arith)
     slice-write-entries-2
-    (search needs)
+    (λ c. omega arith)
     slice-write-entries-3
-    (search needs)
+    (λ c. omega arith)
     slice-write-entries-4
     (search needs)
     returns)

@@ -1,6 +1,7 @@
 -- obj::entry::reset_row meets its contract: a turn puts the reset entry in its cell.
 -- Assumes nothing.
 use Prim.Native.Nat.{_-_}
+use native.Mathlib.Omega.{arith}
 use borrow.Author.Needs.{needs}
 use Rattle.rows.proofs.Passed.{Passed, started, turned, filled}
 use Rattle.obj.specs.Entry.{entryCells, resetEntry}
@@ -29,10 +30,10 @@ reset-row-spec =
     Inv-loop
     μ-loop
     loop-holds
-    (search needs)
-    (search needs)
-    (search needs)
-    (search needs)
+    (λ c κs. omega arith)
+    (λ c κs. omega arith)
+    (λ c. omega arith)
+    (λ c. omega arith)
     loop-again
-    (search needs)
+    (λ c. omega arith)
     returns)

@@ -2,9 +2,12 @@
 -- Assumes nothing.
 use Prim.Native.Nat.{_-_}
 use mathlib.Core.Path.{ap, _∙_}
+use mathlib.Core.Bool.{cond}
 use lib.Dec.{eqb}
+use native.Mathlib.Omega.{arith}
 use borrow.Author.Needs.{needs}
 use Rattle.rows.proofs.Tested.{Summed, summed-none, summed-more, summed-all}
+use Rattle.obj.specs.Entry.{wellShaped}
 use Rattle.obj.proofs.Entries.{faultAt, shapedRow-faults}
 use Rattle.obj.proofs.entry.shaped_row.Statement.{statement}
 use Rattle.obj.proofs.entry.shaped_row.Tie as tie
@@ -19,11 +22,13 @@ loop-holds : tie.Need-loop-holds Inv-loop μ-loop
 loop-holds c = search (needs, summed-none)
 
 loop-again : tie.Need-loop-again Inv-loop μ-loop
-loop-again c = summed-more (c .before .before .before .loop .inv) (search needs) (search needs) (cc)
+loop-again c =
+    summed-more (c .before .before .before .loop .inv) (omega arith) (omega arith)
+    (c .fault .ensures .0 ∙ ap (λ e. cond (wellShaped e) 0 1) (c .before .entry-at .ensures))
 
 returns : tie.Need-returns Inv-loop μ-loop
 returns c =
-    ap (λ n. eqb n 0) (summed-all (c .before .loop .inv) (search needs))
+    ap (λ n. eqb n 0) (summed-all (c .before .loop .inv) (omega arith))
     ∙ shapedRow-faults _
 
 pub shaped-row-spec : {M : Type 1} → statement M
@@ -33,10 +38,10 @@ shaped-row-spec =
     Inv-loop
     μ-loop
     loop-holds
-    (search needs)
-    (search needs)
-    (search needs)
-    (search needs)
-    (search needs)
+    (λ c κs. omega arith)
+    (λ c κs. omega arith)
+    (λ c. omega arith)
+    (λ c. omega arith)
+    (λ c. omega arith)
     loop-again
     returns)

@@ -1,30 +1,34 @@
 -- obj::attrs::ObjAttrs::from meets its contract: each field is its bits, or what a call ensures of them.
 -- Assumes nothing.
-use borrow.Author.Needs.{needs}
+use mathlib.Core.Path.{refl}
+use native.Mathlib.Omega.{arith}
 use Rattle.obj.proofs.Decode.{objAttrs-ext}
 use Rattle.obj.proofs.attrs.ObjAttrs.from.Statement.{statement}
 use Rattle.obj.proofs.attrs.ObjAttrs.from.Tie as tie
 
 returns : tie.Need-returns
-returns c = (
-  objAttrs-ext _ _
-      (search needs) (search needs) (search needs) (search needs) (search needs) (search needs) (search needs)
-      (search needs) (search needs) (search needs) (search needs) (search needs) (search needs),
-  search needs,
-)
+returns c =
+    let typed = c .before .before in
+    let size = typed .before .from .ensures in (
+      objAttrs-ext _ _
+          (omega arith) (typed .from2 .ensures) (c .before .from3 .ensures) (c .tile-format .ensures)
+          (omega arith) (omega arith) refl refl (size .0) (size .1)
+          (omega arith) (omega arith) (omega arith),
+      omega arith,
+    )
 
 pub from-spec : {M : Type 1} → statement M
 from-spec =
     tie.close
     (tie.spec
-    (λ c κs. search needs)
-    (λ c. search needs)
-    (λ c κs. search needs)
-    (λ c κs. search needs)
-    (λ c κs. search needs)
-    (λ c. search needs)
-    (λ c. search needs)
-    (λ c. search needs)
-    (λ c. search needs)
-    (λ c. search needs)
+    (λ c κs. omega arith)
+    (λ c. omega arith)
+    (λ c κs. omega arith)
+    (λ c κs. omega arith)
+    (λ c κs. omega arith)
+    (λ c. omega arith)
+    (λ c. omega arith)
+    (λ c. omega arith)
+    (λ c. omega arith)
+    (λ c. omega arith)
     returns)

@@ -1,5 +1,6 @@
 -- obj::attrs::ObjAttrs::is_drawn meets its contract: its tests are those of drawn.
 -- Assumes nothing.
+use native.Mathlib.Omega.{arith}
 use borrow.Author.Needs.{needs}
 use Rattle.obj.proofs.Drawn.{drawn-is}
 use Rattle.obj.proofs.attrs.ObjAttrs.is_drawn.Statement.{statement}
@@ -12,11 +13,11 @@ pub is-drawn-spec : {M : Type 1} → statement M
 is-drawn-spec =
     tie.close
     (tie.spec
-    (search needs)
-    (search needs)
-    (search needs)
-    (search needs)
-    (search needs)
-    (search needs)
-    (search needs)
+    (λ c. omega arith)
+    (λ c κs. omega arith)
+    (λ c κs. omega arith)
+    (λ c κs. omega arith)
+    (λ c κs. omega arith)
+    (λ c κs. omega arith)
+    (λ c κs. omega arith)
     returns)

@@ -3,8 +3,7 @@
 use Prim.Native.Nat.{_+_, _*_, _/_, _≤_}
 use native.Mathlib.Omega.{arith}
 use borrow.Author.Needs.{needs}
-use Rattle.obj.specs.Tiles.{tileAt}
-use Rattle.obj.proofs.Addresses.{tileSize-bound, rows-bound, tiles-bound}
+use Rattle.obj.proofs.Addresses.{tileSize-bound, rows-bound, tiles-bound, tileAt-is}
 use Rattle.obj.proofs.attrs.ObjAttrs.tile_at.Statement.{statement}
 use Rattle.obj.proofs.attrs.ObjAttrs.tile_at.Tie as tie
 
@@ -33,8 +32,12 @@ add-result-2 : tie.Need-add-result-2
 add-result-2 c = omega (arith, bounds c)
 
 returns : tie.Need-returns
-unfolding tileAt
-returns c = (cc, omega (arith, bounds c))
+returns c =
+    let at = c .before .before .before .args in (
+      tileAt-is (at .reading) (at .mapping) (at .self) (at .x) (at .y)
+          (c .tile-base .ensures .0) (c .before .before .tile-size .ensures) (c .before .tile-array-width .ensures .0),
+      omega (arith, bounds c),
+    )
 
 pub tile-at-spec : {M : Type 1} → statement M
 tile-at-spec =
