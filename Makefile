@@ -1,23 +1,25 @@
 # `make run` draws the sample captures to PNG; `make test` is the gate. Each sets up what it needs.
-# Also: `make coverage` writes docs/COVERAGE.md anew.
+# Also: `make coverage` writes docs/COVERAGE.md anew; `make bench` measures the proved library beside the oracle.
 
 BUILT := host/target/release
 FRAMES := host/target/frames
 SAMPLES := scene.ss0 scene.state.png scene-two-tone.state.png
 
-.PHONY: run test setup host-tests oracle-tests c-tests coverage
+# What is run and tested is the archive built here, even where ASHLARKIN_LIB_DIR names another.
+unexport ASHLARKIN_LIB_DIR
 
-run: setup
-	@cargo build -q --release -p ashlarkin
+.PHONY: run test setup library host host-tests compare oracle-tests c-tests coverage bench
+
+run: host
 	@mkdir -p $(FRAMES)
 	@for sample in $(SAMPLES); do \
 		name=$${sample%.state.png}; \
 		$(BUILT)/ashlarkin frame samples/$$sample --reading H --scale 2 -o $(FRAMES)/$$name.png || exit 1; \
-		echo "drawn by the oracle, reading H: $(FRAMES)/$$name.png"; \
+		echo "drawn by the proved library, reading H: $(FRAMES)/$$name.png"; \
 	done
 
 # `rt ci` stands last: its last line is the verdict, and nothing before it may fail.
-test: setup host-tests oracle-tests c-tests
+test: setup host-tests compare oracle-tests c-tests
 	@rt fmt --check
 	@tools/contracts
 	@rt ci
@@ -25,9 +27,25 @@ test: setup host-tests oracle-tests c-tests
 setup:
 	@tools/setup
 
-host-tests: setup
-	@echo '== host: the command on real and damaged captures'
+# Proves the library and writes target/staticlib/libashlarkin.a, which the host links.
+library: setup
+	@rt staticlib ashlarkin
+
+host: library
+	@cargo build -q --release -p ashlarkin-cli
+
+host-tests: library
+	@echo '== the wrapper: every refusal'
 	@cargo test -q --release -p ashlarkin
+	@echo '== the command on real and damaged captures; the C interface'
+	@cargo test -q --release -p ashlarkin-cli
+
+# The same cases each time, and others each time; the seed is printed, and a difference is kept.
+compare: host
+	@echo '== the proved library and the oracle'
+	@$(BUILT)/ashlarkin compare --cases 150000 --seed 1 --keep host/target/difference.txt
+	@echo '== the proved library and the oracle: fresh seed'
+	@$(BUILT)/ashlarkin compare --cases 50000 --keep host/target/difference.txt
 
 # The same cases in a release build, in a build that checks sums and assertions, and some with a fresh seed.
 oracle-tests: setup
@@ -49,3 +67,6 @@ c-tests: setup
 
 coverage:
 	@tools/coverage
+
+bench: host
+	@$(BUILT)/ashlarkin bench --seconds 30

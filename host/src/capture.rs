@@ -1,14 +1,15 @@
 //! Captures: a folder of four files, or a save state of the emulator mGBA, raw or in its PNG form.
 
+use std::ffi::OsStr;
 use std::fs::{self, File};
 use std::io::{self, Read};
-use std::path::Path;
+use std::path::{Path, PathBuf};
 
 use anyhow::{Context, Result, anyhow, bail, ensure};
+use ashlarkin::{OAM_LEN, PALETTE_LEN, REGISTERS_LEN, Refusal, VRAM_LEN};
 use flate2::Crc;
 use flate2::bufread::ZlibDecoder;
 
-use crate::engine::{OAM_LEN, PALETTE_LEN, REGISTERS_LEN, VRAM_LEN};
 use crate::exit::Refused;
 
 /// Video memory as the hardware has it; the Rust's memory above it stays 0.
@@ -19,6 +20,7 @@ const VRAM: (&str, &[usize]) = ("vram.bin", &[VRAM_LEN, VRAM_USED]);
 const PALETTE: (&str, &[usize]) = ("palette.bin", &[PALETTE_LEN]);
 const OAM: (&str, &[usize]) = ("oam.bin", &[OAM_LEN]);
 const REGISTERS: (&str, &[usize]) = ("registers.bin", &[REGISTERS_LEN]);
+pub const PARTS: [&str; 4] = [VRAM.0, PALETTE.0, OAM.0, REGISTERS.0];
 
 // mGBA's save state: where each part lies. What follows STATE_LEN in a raw one (save data, cheats) isn't needed.
 const STATE_LEN: usize = 0x61000;
@@ -28,7 +30,8 @@ const STATE_PALETTE: usize = 0x800;
 const STATE_OAM: usize = 0xc00;
 const STATE_VRAM: usize = 0x1000;
 
-const PNG_SIGNATURE: &[u8] = b"\x89PNG\r\n\x1a\n";
+const PNG_SIGNATURE: &[u8; 8] = b"\x89PNG\r\n\x1a\n";
+const STATE_CHUNK: &[u8; 4] = b"gbAs";
 
 /// Far above any capture's length, so that a wrong path can't fill the memory.
 const FILE_MAX: usize = 0x100_0000;
@@ -51,18 +54,43 @@ impl Capture {
         }
         let named = || path.display().to_string();
         let bytes = read_file(path).map_err(|error| unreadable(error, A_CAPTURE, "give the path of one"));
-        decode_state(&bytes.with_context(named)?).with_context(named)
+        Capture::of_state(&bytes.with_context(named)?).with_context(named)
     }
 
-    /// Whether `path` is one of the files that the capture is read from.
-    pub fn reads(capture: &Path, path: &Path) -> bool {
-        let Ok(path) = fs::canonicalize(path) else {
-            return false;
-        };
-        let files = [VRAM, PALETTE, OAM, REGISTERS].map(|(name, _)| capture.join(name));
-        let mut all = files.into_iter().chain([capture.to_owned()]);
-        all.any(|file| fs::canonicalize(file).is_ok_and(|file| file == path))
+    /// Takes a save state of either form.
+    pub fn of_state(bytes: &[u8]) -> Result<Capture> {
+        if bytes.starts_with(PNG_SIGNATURE) { split(&inflate(find_state(bytes)?)?) } else { split(bytes) }
     }
+}
+
+/// The files that a capture is read from, those that exist, without links.
+pub fn files(capture: &Path) -> Vec<PathBuf> {
+    let parts = PARTS.map(|name| capture.join(name));
+    let all = parts.into_iter().chain([capture.to_owned()]);
+    all.filter_map(|file| fs::canonicalize(file).ok()).collect()
+}
+
+/// Whether a file's content is a save state's, whole or damaged.
+pub fn is_state(path: &Path) -> io::Result<bool> {
+    let mut head = [0; PNG_SIGNATURE.len()];
+    if let Err(error) = File::open(path)?.read_exact(&mut head) {
+        return if error.kind() == io::ErrorKind::UnexpectedEof { Ok(false) } else { Err(error) };
+    }
+    if head == *PNG_SIGNATURE {
+        // Sought in all bytes, since a damaged chunk hides those after it.
+        return Ok(read_file(path)?.windows(4).any(|bytes| bytes == STATE_CHUNK));
+    }
+    // Version 0 is none of mGBA's, and video streams start so.
+    let (version, kind) = (head[0], &head[1..4]);
+    Ok(version != 0 && *kind == STATE_MAGIC.to_le_bytes()[1..])
+}
+
+/// Whether a file's name is one that mGBA, or people after it, give to save states: `*.ss0`, `*.state.png`.
+pub fn named_as_state(path: &Path) -> bool {
+    let lower = |text: &OsStr| text.to_string_lossy().to_lowercase();
+    let name = path.file_name().map(lower).unwrap_or_default();
+    let extension = path.extension().map(lower).unwrap_or_default();
+    name.ends_with(".state.png") || extension.starts_with("ss") && extension.chars().count() == 3
 }
 
 /// A whole file, or one byte more than any capture has.
@@ -91,6 +119,9 @@ fn read_part(folder: &Path, (name, lengths): (&str, &[usize])) -> Result<Vec<u8>
     let path = folder.join(name);
     let named = || path.display().to_string();
     let expected = lengths.iter().map(usize::to_string).collect::<Vec<_>>().join(" or ");
+    // A pipe would be waited for.
+    let special = fs::metadata(&path).is_ok_and(|found| !found.is_file() && !found.is_dir());
+    ensure!(!special, "{}: not a file, expected one of {expected} bytes; the folder needs this file", path.display());
     let bytes = read_file(&path)
         .map_err(|error| unreadable(error, &format!("{expected} bytes"), "the folder needs this file"))
         .with_context(named)?;
@@ -102,12 +133,11 @@ fn read_part(folder: &Path, (name, lengths): (&str, &[usize])) -> Result<Vec<u8>
 
 fn wrong_length(found: usize, expected: &str) -> anyhow::Error {
     let found = if found > FILE_MAX { format!("more than {FILE_MAX}") } else { found.to_string() };
-    Refused { number: 2, found: format!("{found} bytes, expected {expected}") }.into()
+    another_length(format!("{found} bytes, expected {expected}"))
 }
 
-/// Takes a save state of either form.
-fn decode_state(bytes: &[u8]) -> Result<Capture> {
-    if bytes.starts_with(PNG_SIGNATURE) { split(&inflate(find_state(bytes)?)?) } else { split(bytes) }
+fn another_length(found: String) -> anyhow::Error {
+    Refused { refusal: Refusal::Length, line: None, found }.into()
 }
 
 /// Takes a raw state apart.
@@ -152,10 +182,10 @@ fn find_state(png: &[u8]) -> Result<&[u8]> {
         let chunk = next_chunk(&mut rest)
             .with_context(|| format!("PNG damaged at byte {}, expected whole chunks", png.len() - rest.len()))?;
         match chunk.kind {
-            b"gbAs" if state.is_some() => {
+            STATE_CHUNK if state.is_some() => {
                 bail!("PNG with two gbAs chunks, expected one; save the state again with mGBA")
             }
-            b"gbAs" => state = Some(chunk.data),
+            STATE_CHUNK => state = Some(chunk.data),
             b"IEND" => break,
             _ => {}
         }
@@ -198,8 +228,7 @@ fn inflate(packed: &[u8]) -> Result<Vec<u8>> {
         .read_to_end(&mut state)
         .map_err(|error| anyhow!("gbAs chunk: {error}, expected zlib data; save the state again"))?;
     if state.len() > STATE_LEN {
-        let found = format!("more than {STATE_LEN} bytes in gbAs, expected {STATE_LEN}");
-        return Err(Refused { number: 2, found }.into());
+        return Err(another_length(format!("more than {STATE_LEN} bytes in gbAs, expected {STATE_LEN}")));
     }
     Ok(state)
 }
@@ -217,11 +246,11 @@ mod tests {
     const PNG: &[u8] = include_bytes!("../../samples/scene.state.png");
 
     fn number(bytes: &[u8]) -> Option<u32> {
-        decode_state(bytes).unwrap_err().downcast_ref::<Refused>().map(|refused| refused.number)
+        Capture::of_state(bytes).unwrap_err().downcast_ref::<Refused>().map(|refused| refused.refusal.number())
     }
 
     fn text(bytes: &[u8]) -> String {
-        format!("{:#}", decode_state(bytes).unwrap_err())
+        format!("{:#}", Capture::of_state(bytes).unwrap_err())
     }
 
     fn chunk(kind: &[u8; 4], data: &[u8]) -> Vec<u8> {
@@ -230,7 +259,7 @@ mod tests {
     }
 
     fn png_of(chunks: &[Vec<u8>]) -> Vec<u8> {
-        [PNG_SIGNATURE, &chunks.concat()].concat()
+        [&PNG_SIGNATURE[..], &chunks.concat()].concat()
     }
 
     fn pack(state: &[u8]) -> Vec<u8> {
@@ -241,20 +270,20 @@ mod tests {
 
     #[test]
     fn parts_lie_where_the_layout_says() {
-        let capture = decode_state(RAW).unwrap();
+        let capture = Capture::of_state(RAW).unwrap();
         assert_eq!(capture.registers, &RAW[0x400..0x456]);
         assert_eq!(capture.palette, &RAW[0x800..0xc00]);
         assert_eq!(capture.oam, &RAW[0xc00..0x1000]);
         assert_eq!(capture.vram[..0x18000], RAW[0x1000..0x19000]);
         assert_eq!(capture.vram[0x18000..], [0; 0x8000]);
-        assert_eq!(capture, decode_state(PNG).unwrap());
-        assert_eq!(capture, decode_state(&RAW[..STATE_LEN]).unwrap());
+        assert_eq!(capture, Capture::of_state(PNG).unwrap());
+        assert_eq!(capture, Capture::of_state(&RAW[..STATE_LEN]).unwrap());
     }
 
     #[test]
     fn every_cut_is_refused() {
         for len in (0..PNG.len()).step_by(13).chain([PNG.len() - 1]) {
-            assert!(decode_state(&PNG[..len]).is_err(), "PNG of {len} bytes");
+            assert!(Capture::of_state(&PNG[..len]).is_err(), "PNG of {len} bytes");
         }
         for len in (0..STATE_LEN).step_by(4093).chain([1, 3, 4, STATE_LEN - 1]) {
             assert_eq!(number(&RAW[..len]), Some(2), "state of {len} bytes");
@@ -266,7 +295,7 @@ mod tests {
         for place in (0..PNG.len()).step_by(61) {
             let mut bytes = PNG.to_vec();
             bytes[place] ^= 1 << (place % 8);
-            assert!(decode_state(&bytes).is_err(), "byte {place}");
+            assert!(Capture::of_state(&bytes).is_err(), "byte {place}");
         }
     }
 
@@ -279,20 +308,20 @@ mod tests {
         };
         for len in 0..2000 {
             let noise: Vec<u8> = (0..len).map(|_| next()).collect();
-            assert!(decode_state(&noise).is_err());
+            assert!(Capture::of_state(&noise).is_err());
             // Past the signature, past a chunk's CRC, and into the decompressor.
-            assert!(decode_state(&png_of(std::slice::from_ref(&noise))).is_err());
+            assert!(Capture::of_state(&png_of(std::slice::from_ref(&noise))).is_err());
             let state = [chunk(b"gbAs", &noise), chunk(b"IEND", &[])];
-            assert!(decode_state(&png_of(&state)).is_err());
+            assert!(Capture::of_state(&png_of(&state)).is_err());
             let packed = [chunk(b"gbAs", &pack(&noise)), chunk(b"IEND", &[])];
-            assert!(decode_state(&png_of(&packed)).is_err());
+            assert!(Capture::of_state(&png_of(&packed)).is_err());
         }
     }
 
     #[test]
     fn a_state_that_unpacks_to_another_length_is_refused() {
         let packed = |state: &[u8]| png_of(&[chunk(b"gbAs", &pack(state)), chunk(b"IEND", &[])]);
-        assert!(decode_state(&packed(&RAW[..STATE_LEN])).is_ok());
+        assert!(Capture::of_state(&packed(&RAW[..STATE_LEN])).is_ok());
         assert_eq!(number(&packed(&RAW[..STATE_LEN - 1])), Some(2));
         assert_eq!(number(&packed(&RAW[..STATE_LEN + 1])), Some(2));
         assert_eq!(number(&packed(&vec![0; 0x400_0000])), Some(2));
@@ -306,7 +335,7 @@ mod tests {
         assert!(text(&two).contains("two gbAs chunks"));
         assert!(text(b"PK\x03\x04").contains("starts with 0x04034b50, expected 0x01000007"));
         assert!(text(&[6, 0, 0, 1]).contains("version 6, expected 7"));
-        let length = [PNG_SIGNATURE, &[0xff; 4], b"gbAs", &[0; 64]].concat();
+        let length = [&PNG_SIGNATURE[..], &[0xff; 4], b"gbAs", &[0; 64]].concat();
         assert!(text(&length).contains("PNG damaged at byte 8"));
     }
 }

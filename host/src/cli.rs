@@ -1,18 +1,25 @@
 //! The command line.
 
 use std::path::PathBuf;
+use std::time::SystemTime;
 
 use anyhow::Result;
 use clap::{Args, Parser, Subcommand, value_parser};
 
-use crate::frame::{self, Reading};
+use crate::compare::{self, Flip, Plan, Readings};
+use crate::exit::Exit;
+use crate::frame::{self, Reading, Style};
+use crate::{batch, bench};
 
 const EXAMPLES: &str = "\
 Examples:
   ashlarkin frame samples/scene.ss0 -o frame.png
   ashlarkin frame samples/scene.state.png -o frame.png --reading H --scale 4
+  ashlarkin batch caps -o frames
+  ashlarkin compare --cases 100000
+  ashlarkin bench
 
-Exit status: 0 drawn, 1 refused or unreadable, 2 bad usage.";
+Exit status: 0 all done, 1 something refused, unreadable or different, 2 bad usage.";
 
 const FRAME_EXAMPLES: &str = "\
 Examples:
@@ -22,9 +29,32 @@ Examples:
 
 Exit status: 0 drawn, 1 refused or unreadable (no file is written), 2 bad usage.";
 
+const BATCH_EXAMPLES: &str = "\
+Examples:
+  ashlarkin batch caps -o frames                  caps/a/07 goes to frames/a/07.png, caps/b.ss0 to frames/b.ss0.png
+  ashlarkin batch caps -o frames --json > all.txt a JSON object a capture, and one with the counts
+  ashlarkin batch caps -o frames --jobs 4 --reading H --scale 2
+
+Exit status: 0 all drawn, 1 a capture refused or unreadable (the others are drawn) or none found, 2 bad usage.";
+
+const COMPARE_EXAMPLES: &str = "\
+Examples:
+  ashlarkin compare                               10000 cases with a fresh seed
+  ashlarkin compare --cases 1000000 --seed 7      the same cases each time
+  ashlarkin compare --replay difference.txt       a kept difference again
+
+Exit status: 0 no difference, 1 a difference (kept in a file), 2 bad usage.";
+
+const BENCH_EXAMPLES: &str = "\
+Examples:
+  ashlarkin bench                                 a few seconds
+  ashlarkin bench --seconds 60 --json
+
+Exit status: 0 measured, 1 the two draw different lines, 2 bad usage.";
+
 /// Draws captured video memory of the Game Boy Advance to PNG
 #[derive(Parser)]
-#[command(version, after_help = EXAMPLES)]
+#[command(name = "ashlarkin", version, after_help = EXAMPLES)]
 pub struct Cli {
     #[command(subcommand)]
     command: Command,
@@ -35,6 +65,15 @@ enum Command {
     /// Draw the frame of one capture
     #[command(after_help = FRAME_EXAMPLES)]
     Frame(FrameArgs),
+    /// Draw every capture below a folder, on all cores
+    #[command(after_help = BATCH_EXAMPLES)]
+    Batch(BatchArgs),
+    /// Compare the proved library with the emulator's Rust on generated cases
+    #[command(after_help = COMPARE_EXAMPLES)]
+    Compare(CompareArgs),
+    /// Measure lines a second of the proved library and of the emulator's Rust
+    #[command(after_help = BENCH_EXAMPLES)]
+    Bench(BenchArgs),
 }
 
 #[derive(Args)]
@@ -52,6 +91,12 @@ struct FrameArgs {
     #[arg(short, long, value_name = "FILE")]
     output: PathBuf,
 
+    #[command(flatten)]
+    style: StyleArgs,
+}
+
+#[derive(Args)]
+struct StyleArgs {
     /// Whose rules to draw by
     ///
     /// Example: --reading H
@@ -65,10 +110,128 @@ struct FrameArgs {
     scale: u32,
 }
 
+impl StyleArgs {
+    fn style(&self) -> Style {
+        Style { reading: self.reading, scale: self.scale }
+    }
+}
+
+#[derive(Args)]
+struct BatchArgs {
+    /// The folder to look for captures in, at any depth
+    ///
+    /// A folder with one of the four files is a capture, and so is a file that is a save state by its content, or named
+    /// as one (*.ss0, *.state.png). Other files are passed over, and so is what lies in the folder of frames. Example:
+    /// caps
+    #[arg(value_name = "FOLDER")]
+    folder: PathBuf,
+
+    /// The folder to write frames to, made where it is missing
+    ///
+    /// Each frame has the path of its capture and .png after it. A file of that name is replaced, but only by a whole
+    /// frame. Example: -o frames
+    #[arg(short, long, value_name = "OUT")]
+    output: PathBuf,
+
+    /// How many captures to draw at a time, 1 to 1024 [default: one a core]
+    ///
+    /// Example: --jobs 4
+    #[arg(long, value_name = "N", value_parser = value_parser!(u16).range(1..=1024))]
+    jobs: Option<u16>,
+
+    #[command(flatten)]
+    style: StyleArgs,
+
+    /// Print a JSON object for each capture and one with the counts
+    ///
+    /// One a line, on standard output, in the order of the captures' paths. Example: --json
+    #[arg(long)]
+    json: bool,
+}
+
+#[derive(Args)]
+struct CompareArgs {
+    /// How many cases to compare
+    ///
+    /// Each is one to six draws, a line-end step and a reset of a row. Example: --cases 1000000
+    #[arg(long, value_name = "N", default_value = "10000", value_parser = value_parser!(u64).range(1..))]
+    cases: u64,
+
+    /// The seed that the cases are made from [default: a fresh one]
+    ///
+    /// It is printed, and the same seed makes the same cases. Example: --seed 7
+    #[arg(long, value_name = "S")]
+    seed: Option<u64>,
+
+    /// Which draws of the cases to compare
+    ///
+    /// Example: --reading H
+    #[arg(long, value_enum, ignore_case = true, default_value = "both")]
+    reading: Readings,
+
+    /// The file to keep the first difference in
+    ///
+    /// It holds all of the draws' memory. A file of that name is replaced. Example: --keep difference.txt
+    #[arg(long, value_name = "FILE", default_value = "ashlarkin-difference.txt")]
+    keep: PathBuf,
+
+    /// Compare a kept difference again, and show where the two part
+    ///
+    /// Example: --replay difference.txt
+    #[arg(long, value_name = "FILE", conflicts_with_all = ["cases", "seed", "reading", "keep"])]
+    replay: Option<PathBuf>,
+
+    /// Change the library's answer in one case, so that a test sees a difference found
+    #[arg(long, value_name = "WHAT@CASE", hide = true, value_parser = Flip::parse)]
+    flip_for_test: Option<Flip>,
+}
+
+#[derive(Args)]
+struct BenchArgs {
+    /// About how long to measure, 1 to 3600
+    ///
+    /// Example: --seconds 60
+    #[arg(long, value_name = "S", default_value = "7", value_parser = value_parser!(u32).range(1..=3600))]
+    seconds: u32,
+
+    /// Print one JSON object
+    ///
+    /// Example: --json
+    #[arg(long)]
+    json: bool,
+}
+
 impl Cli {
-    pub fn run(self) -> Result<()> {
+    pub fn run(self) -> Result<Exit> {
         match self.command {
-            Command::Frame(args) => frame::run(&args.capture, &args.output, args.reading, args.scale),
+            Command::Frame(args) => frame::run(&args.capture, &args.output, args.style.style()),
+            Command::Batch(args) => args.run(),
+            Command::Compare(args) => args.run(),
+            Command::Bench(args) => bench::run(args.seconds.into(), args.json),
         }
     }
+}
+
+impl BatchArgs {
+    fn run(&self) -> Result<Exit> {
+        let options = batch::Options { style: self.style.style(), jobs: self.jobs.map(usize::from), json: self.json };
+        batch::run(&self.folder, &self.output, &options)
+    }
+}
+
+impl CompareArgs {
+    fn run(&self) -> Result<Exit> {
+        if let Some(path) = &self.replay {
+            return compare::replay(path, self.flip_for_test);
+        }
+        let seed = self.seed.unwrap_or_else(fresh_seed);
+        let plan = Plan { cases: self.cases, seed, readings: self.reading, flip: self.flip_for_test };
+        compare::run(&plan, &self.keep)
+    }
+}
+
+/// Another seed for each run, short enough to be typed.
+fn fresh_seed() -> u64 {
+    let now = SystemTime::now().duration_since(SystemTime::UNIX_EPOCH);
+    now.map_or(0, |now| now.as_micros() as u64 % 1_000_000_000)
 }

@@ -1,14 +1,18 @@
-//! How the command ends: the exit statuses, and the refusals of document 01 in words.
+//! How the command ends: the exit statuses, what it prints, and refusals with the way out.
 
 use std::fmt;
 use std::io::{self, Write};
 use std::process::ExitCode;
 
+use anyhow::{Result, anyhow};
+use ashlarkin::Refusal;
+
 /// What the command says to the shell.
-enum Exit {
-    Drawn = 0,
-    /// Refused by number, or a file that can't be read or written.
-    Refused = 1,
+#[derive(Clone, Copy, Debug, PartialEq)]
+pub enum Exit {
+    Done = 0,
+    /// Something was refused by number, couldn't be read or written, or (of `compare`) differed.
+    Failed = 1,
     Usage = 2,
 }
 
@@ -18,69 +22,76 @@ impl From<Exit> for ExitCode {
     }
 }
 
-/// What a number means (document 01, "Numbers a draw may return", word for word), and what to do about it.
-#[rustfmt::skip]
-const REFUSALS: [(u32, &str, &str); 7] = [
-    (1, "reading is neither 0 nor 1", REPORT),
-    (2, "a buffer has another length", "make the capture again, whole"),
-    (3, "line 160 or more", REPORT),
-    (4, "forced blank off, mode 6 or 7", "make the capture in one of the modes 0 to 5"),
-    (5, "forced blank off, reading R, low five bits of BLDY above 16", "draw it with --reading H, which takes 16"),
-    (6, "forced blank off, a reference number outside -2^28 .. 2^28 - 1", REPORT),
-    (7, "forced blank off, an entry not well shaped", REPORT),
-];
-
 /// For what no capture can bring about: rows are reset, and 28-bit references can't leave the range in 160 lines.
-pub const REPORT: &str = "a fault of ashlarkin: report it with the capture";
+const REPORT: &str = "a fault of ashlarkin: report it with the capture";
 
-/// The meaning of a refusal's number.
-pub fn refusal(number: u32) -> &'static str {
-    row(number).0
+/// What to do about a refusal.
+fn way_out(refusal: Refusal) -> &'static str {
+    match refusal {
+        Refusal::Length => "make the capture again, whole",
+        Refusal::Mode => "make the capture in one of the modes 0 to 5",
+        Refusal::Brightness => "draw it with --reading H, which takes 16",
+        Refusal::Reading | Refusal::Line | Refusal::Reference | Refusal::Entry | Refusal::Unknown(_) => REPORT,
+    }
 }
 
-fn row(number: u32) -> (&'static str, &'static str) {
-    let known = REFUSALS.iter().find(|row| row.0 == number);
-    known.map_or(("a number that document 01 doesn't give", REPORT), |row| (row.1, row.2))
-}
-
-/// A refusal: what was found, and the number.
+/// A refusal: the number, the line where it was a draw's, and what was found.
 #[derive(Debug)]
 pub struct Refused {
-    pub number: u32,
+    pub refusal: Refusal,
+    pub line: Option<u32>,
     pub found: String,
 }
 
 impl fmt::Display for Refused {
     fn fmt(&self, f: &mut fmt::Formatter) -> fmt::Result {
-        write!(f, "{} (refusal {}); {}", self.found, self.number, row(self.number).1)
+        if let Some(line) = self.line {
+            write!(f, "line {line}: ")?;
+        }
+        write!(f, "{} (refusal {}); {}", self.found, self.refusal.number(), way_out(self.refusal))
     }
 }
 
 impl std::error::Error for Refused {}
 
 /// Ends a command that was understood.
-pub fn after(result: anyhow::Result<()>) -> ExitCode {
-    let Err(error) = result else {
-        return Exit::Drawn.into();
-    };
-    // Where stderr is full, the status still tells.
-    let _ = writeln!(io::stderr(), "{}", one_line(&format!("{error:#}")));
-    Exit::Refused.into()
+pub fn after(result: Result<Exit>) -> ExitCode {
+    let exit = result.unwrap_or_else(|error| {
+        complain(&error);
+        Exit::Failed
+    });
+    exit.into()
 }
 
 /// Ends a command line that clap answered itself: help and version are no failures.
 pub fn after_usage(answer: &clap::Error) -> ExitCode {
     // A closed pipe is the reader's choice.
     let _ = answer.print();
-    if answer.use_stderr() { Exit::Usage.into() } else { Exit::Drawn.into() }
+    if answer.use_stderr() { Exit::Usage.into() } else { Exit::Done.into() }
+}
+
+/// An error, as one line on stderr.
+pub fn complain(error: &anyhow::Error) {
+    // Where stderr is full, the status still tells.
+    let _ = writeln!(io::stderr(), "{}", one_line(error));
+}
+
+/// A result, as a line on stdout. A reader that has gone away has read enough.
+pub fn say(text: &str) -> Result<()> {
+    match writeln!(io::stdout(), "{text}") {
+        Err(error) if error.kind() != io::ErrorKind::BrokenPipe => {
+            Err(anyhow!("standard output: can't be written: {error}; give it a place with room"))
+        }
+        _ => Ok(()),
+    }
 }
 
 /// A path may hold any character, and an error is one line.
-fn one_line(text: &str) -> String {
+pub fn one_line(error: &anyhow::Error) -> String {
     let escape = |c: char| {
         if c.is_control() { c.escape_default().to_string() } else { c.to_string() }
     };
-    text.chars().map(escape).collect()
+    format!("{error:#}").chars().map(escape).collect()
 }
 
 #[cfg(test)]
@@ -88,20 +99,7 @@ mod tests {
     use super::*;
 
     #[test]
-    fn the_table_is_document_01s() {
-        let document = include_str!("../../docs/01-scope.md");
-        let section = document.split("## ").find(|s| s.starts_with("Numbers a draw may return"));
-        let rows = section.unwrap().lines().filter_map(|line| {
-            let cells: Vec<&str> = line.split('|').map(str::trim).collect();
-            let number: u32 = cells.get(1)?.parse().ok()?;
-            (number != 0).then(|| (number, cells[2]))
-        });
-        let table = REFUSALS.map(|(number, meaning, _)| (number, meaning));
-        assert_eq!(rows.collect::<Vec<_>>(), table);
-    }
-
-    #[test]
     fn an_error_is_one_line() {
-        assert_eq!(one_line("caps/a\nb\u{1b}[2J: é"), "caps/a\\nb\\u{1b}[2J: é");
+        assert_eq!(one_line(&anyhow!("caps/a\nb\u{1b}[2J: é")), "caps/a\\nb\\u{1b}[2J: é");
     }
 }

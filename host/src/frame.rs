@@ -1,18 +1,15 @@
 //! A frame: 160 lines drawn in turn, and the PNG of them.
 
-use std::fs::{self, File};
-use std::io::{self, Write};
-use std::path::{Path, PathBuf};
+use std::fs;
+use std::path::Path;
 
-use anyhow::{Context, Result, anyhow, ensure};
+use anyhow::{Context, Result, ensure};
+use ashlarkin::{ENTRIES_LEN, HEIGHT, Input, OUTPUT_LEN, READING_H, READING_R, Refusal, WIDTH};
 use clap::ValueEnum;
 
-use crate::capture::Capture;
-use crate::engine::{self, Engine, Fault, Input};
-use crate::exit::{REPORT, Refused, refusal};
-
-const WIDTH: usize = 240;
-const HEIGHT: u32 = 160;
+use crate::capture::{self, Capture};
+use crate::exit::{Exit, Refused};
+use crate::output;
 
 // Register offsets (GBATEK, "LCD I/O").
 const DISPCNT: usize = 0x00;
@@ -26,15 +23,15 @@ const BG3X: usize = 0x38;
 const BG3Y: usize = 0x3c;
 const BLDY: usize = 0x54;
 
-/// A reading, with its number in document 01.
+/// Whose rules to draw by.
 #[derive(Clone, Copy, ValueEnum)]
 pub enum Reading {
     /// As the emulator's Rust draws
     #[value(name = "R")]
-    R = 0,
+    R = READING_R as isize,
     /// As the hardware notes say, where they part from the Rust
     #[value(name = "H")]
-    H = 1,
+    H = READING_H as isize,
 }
 
 impl Reading {
@@ -47,27 +44,50 @@ impl Reading {
     }
 }
 
+/// How a capture becomes a picture.
+#[derive(Clone, Copy)]
+pub struct Style {
+    pub reading: Reading,
+    pub scale: u32,
+}
+
 /// A drawn frame, three bytes a pixel: red, green, blue.
 pub struct Frame {
     pixels: Vec<u8>,
 }
 
 /// Draws the 160 lines of a capture.
-pub fn draw(engine: &mut Engine, capture: &Capture, reading: Reading) -> Result<Frame> {
-    let registers = &capture.registers;
-    let steps = [BG2PB, BG2PD, BG3PB, BG3PD].map(|offset| half(registers, offset) as i16);
-    let mut input = first_line(capture, reading);
+pub fn draw(capture: &Capture, reading: Reading) -> Result<Frame> {
     let mut pixels = Vec::with_capacity(WIDTH * HEIGHT as usize * 3);
-    for line in 0..HEIGHT {
-        input.line = line;
-        if line >= reading.first_stepped() {
-            input.references = engine::step(steps, input.references).map_err(|fault| explain(fault, &input))?;
-        }
-        let output = engine.draw(&input).map_err(|fault| explain(fault, &input))?;
+    for input in lines(capture, reading) {
+        let input = input?;
+        let output = draw_line(&input).map_err(|refusal| explain(refusal, &input))?;
         // A word is 0x00RRGGBB, little-endian.
         pixels.extend(output.chunks_exact(4).flat_map(|word| [word[2], word[1], word[0]]));
     }
     Ok(Frame { pixels })
+}
+
+/// What the draws of a frame read, line by line, each with the references stepped to it.
+pub fn lines(capture: &Capture, reading: Reading) -> impl Iterator<Item = Result<Input<'_>>> {
+    let steps = [BG2PB, BG2PD, BG3PB, BG3PD].map(|offset| half(&capture.registers, offset) as i16);
+    let mut input = first_line(capture, reading);
+    (0..HEIGHT).map(move |line| {
+        input.line = line;
+        if line >= reading.first_stepped() {
+            let stepped = ashlarkin::stepped(steps, input.references);
+            input.references = stepped.map_err(|refusal| explain(refusal, &input))?;
+        }
+        Ok(input)
+    })
+}
+
+/// One line, over a row of reset entries.
+fn draw_line(input: &Input) -> Result<[u8; OUTPUT_LEN], Refusal> {
+    let (mut entries, mut output) = ([0; ENTRIES_LEN], [0; OUTPUT_LEN]);
+    ashlarkin::reset(&mut entries)?;
+    ashlarkin::draw(input, &mut entries, &mut output)?;
+    Ok(output)
 }
 
 /// A capture doesn't hold the running references, so they start from the registers, as at vertical blank.
@@ -95,19 +115,14 @@ fn reference(registers: &[u8], offset: usize) -> i32 {
 }
 
 /// Says why a line wasn't drawn, with the values that the number is about.
-fn explain(fault: Fault, input: &Input) -> anyhow::Error {
-    let line = input.line;
-    let number = match fault {
-        Fault::Refused(number) => number,
-        Fault::Panicked(message) => return anyhow!("line {line}: panicked: {message}; {REPORT}"),
-    };
-    let value = match number {
-        4 => format!("DISPCNT is 0x{:04x}", half(input.registers, DISPCNT)),
-        5 => format!("BLDY is 0x{:04x}", half(input.registers, BLDY)),
-        6 => format!("references are {:?}", input.references),
+fn explain(refusal: Refusal, input: &Input) -> anyhow::Error {
+    let value = match refusal {
+        Refusal::Mode => format!("DISPCNT is 0x{:04x}", half(input.registers, DISPCNT)),
+        Refusal::Brightness => format!("BLDY is 0x{:04x}", half(input.registers, BLDY)),
+        Refusal::Reference => format!("references are {:?}", input.references),
         _ => "not drawn".to_owned(),
     };
-    Refused { number, found: format!("line {line}: {value}: {}", refusal(number)) }.into()
+    Refused { refusal, line: Some(input.line), found: format!("{value}: {}", refusal.meaning()) }.into()
 }
 
 impl Frame {
@@ -133,51 +148,21 @@ impl Frame {
     }
 }
 
-/// Writes a file whole or not at all: under another name beside it, then renamed.
-pub fn write(path: &Path, bytes: &[u8]) -> Result<()> {
-    const WAY_OUT: &str = "give -o a file in a folder that exists and can be written";
-    // A rename replaces a link, or a device, by the file.
-    let target = fs::canonicalize(path).unwrap_or_else(|_| path.to_owned());
-    ensure!(!target.exists() || target.is_file(), "not a file, expected one to write; {WAY_OUT}");
-    ensure!(target.file_name().is_some(), "no file name, expected one; {WAY_OUT}");
-    replace(&target, bytes).map_err(|error| anyhow!("can't be written: {error}; {WAY_OUT}"))
-}
-
-fn replace(target: &Path, bytes: &[u8]) -> io::Result<()> {
-    let (temporary, mut file) = create_beside(target)?;
-    let written = file.write_all(bytes).and_then(|()| fs::rename(&temporary, target));
-    if written.is_err() {
-        // The first error is the one to report.
-        let _ = fs::remove_file(&temporary);
-    }
-    written
-}
-
-/// A new file in the target's folder, past the names that a killed run or another thread holds.
-fn create_beside(target: &Path) -> io::Result<(PathBuf, File)> {
-    let process = std::process::id();
-    for n in 0..1000 {
-        let path = target.with_file_name(format!(".ashlarkin-{process}-{n}.tmp"));
-        match File::create_new(&path) {
-            Err(error) if error.kind() == io::ErrorKind::AlreadyExists => continue,
-            file => return Ok((path, file?)),
-        }
-    }
-    Err(io::ErrorKind::AlreadyExists.into())
+/// Reads a capture and draws it: the PNG's bytes.
+pub fn render(capture: &Path, style: Style) -> Result<Vec<u8>> {
+    let named = || capture.display().to_string();
+    let frame = draw(&Capture::read(capture)?, style.reading).with_context(named)?;
+    frame.png(style.scale).with_context(named)
 }
 
 /// Reads, draws and writes one capture.
-pub fn run(capture: &Path, output: &Path, reading: Reading, scale: u32) -> Result<()> {
-    ensure!(
-        !Capture::reads(capture, output),
-        "{}: a file of the capture itself, expected another; give -o another name",
-        output.display()
-    );
-    let named = || capture.display().to_string();
-    let read = Capture::read(capture)?;
-    let frame = draw(&mut Engine::new(), &read, reading).with_context(named)?;
-    let png = frame.png(scale).with_context(named)?;
-    write(output, &png).with_context(|| output.display().to_string())
+pub fn run(capture: &Path, path: &Path, style: Style) -> Result<Exit> {
+    const WAY_OUT: &str = "give -o a file in a folder that exists and can be written";
+    let named = || path.display().to_string();
+    let own = fs::canonicalize(path).is_ok_and(|path| capture::files(capture).contains(&path));
+    ensure!(!own, "{}: a file of the capture itself, expected another; give -o another name", named());
+    output::write(path, &render(capture, style)?, WAY_OUT).with_context(named)?;
+    Ok(Exit::Done)
 }
 
 #[cfg(test)]

@@ -1,10 +1,14 @@
 //! `ashlarkin` draws captured video memory of the Game Boy Advance to PNG.
 
+mod batch;
+mod bench;
 mod capture;
 mod cli;
-mod engine;
+mod compare;
 mod exit;
+mod find;
 mod frame;
+mod output;
 
 use clap::Parser;
 

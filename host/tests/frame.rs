@@ -1,93 +1,11 @@
-//! `ashlarkin frame` as people run it: the built command on real captures, on damaged ones and with bad usage.
+//! `ashlarkin frame` on real captures, on damaged ones and with bad usage.
 
-use std::fs::{self, File};
+use std::fs;
 use std::os::unix::fs::symlink;
 use std::os::unix::net::UnixListener;
-use std::path::{Path, PathBuf};
-use std::process::{Command, Output};
+use std::path::Path;
 
-const STATE_LEN: usize = 0x61000;
-const FILES: [(&str, usize); 4] =
-    [("vram.bin", 131_072), ("palette.bin", 1024), ("oam.bin", 1024), ("registers.bin", 86)];
-
-/// A folder of its own for each test, empty at the start.
-fn scratch(test: &str) -> PathBuf {
-    let folder = Path::new(env!("CARGO_TARGET_TMPDIR")).join("frame").join(test);
-    let _ = fs::remove_dir_all(&folder);
-    fs::create_dir_all(&folder).unwrap();
-    folder
-}
-
-fn sample(name: &str) -> PathBuf {
-    Path::new(env!("CARGO_MANIFEST_DIR")).join("../samples").join(name)
-}
-
-fn ashlarkin(arguments: &[&str]) -> Output {
-    Command::new(env!("CARGO_BIN_EXE_ashlarkin")).args(arguments).output().unwrap()
-}
-
-fn frame(capture: &Path, output: &Path, options: &[&str]) -> Output {
-    let paths = ["frame", capture.to_str().unwrap(), "-o", output.to_str().unwrap()];
-    ashlarkin(&[&paths[..], options].concat())
-}
-
-fn stderr(output: &Output) -> &str {
-    std::str::from_utf8(&output.stderr).unwrap()
-}
-
-struct Picture {
-    width: usize,
-    height: usize,
-    pixels: Vec<[u8; 3]>,
-}
-
-/// Any 8-bit PNG with three or four channels, the fourth left out.
-fn read_png(path: &Path) -> Picture {
-    let mut reader = png::Decoder::new(File::open(path).unwrap()).read_info().unwrap();
-    let mut bytes = vec![0; reader.output_buffer_size()];
-    let info = reader.next_frame(&mut bytes).unwrap();
-    assert_eq!(info.bit_depth, png::BitDepth::Eight);
-    let samples = info.color_type.samples();
-    assert!(samples == 3 || samples == 4, "{}: {:?}", path.display(), info.color_type);
-    let pixels = bytes.chunks_exact(samples).map(|p| [p[0], p[1], p[2]]).collect();
-    Picture { width: info.width as usize, height: info.height as usize, pixels }
-}
-
-/// Draws a capture that must be drawn.
-fn drawn(capture: &Path, folder: &Path, options: &[&str]) -> Picture {
-    let output = folder.join("drawn.png");
-    let run = frame(capture, &output, options);
-    assert_eq!(run.status.code(), Some(0), "{}", stderr(&run));
-    assert!(run.stdout.is_empty() && run.stderr.is_empty());
-    let picture = read_png(&output);
-    fs::remove_file(output).unwrap();
-    picture
-}
-
-/// Runs a draw that must end in one line that names `path` and has all of `words`, and must write nothing.
-fn refused(capture: &Path, folder: &Path, path: &Path, words: &[&str], options: &[&str]) {
-    let before = names(folder);
-    let run = frame(capture, &folder.join("refused.png"), options);
-    check_refused(&run, path, words);
-    assert_eq!(names(folder), before, "{}", path.display());
-}
-
-fn check_refused(run: &Output, path: &Path, words: &[&str]) {
-    let text = stderr(run);
-    assert_eq!(run.status.code(), Some(1), "{}: {text}", path.display());
-    assert!(run.stdout.is_empty());
-    assert!(text.ends_with('\n') && text.lines().count() == 1, "{text}");
-    assert!(text.starts_with(&format!("{}: ", path.display())), "{text} names {}", path.display());
-    for word in words {
-        assert!(text.contains(word), "{text} has {word}");
-    }
-}
-
-fn names(folder: &Path) -> Vec<PathBuf> {
-    let mut names: Vec<PathBuf> = fs::read_dir(folder).unwrap().map(|e| e.unwrap().path()).collect();
-    names.sort();
-    names
-}
+use crate::common::*;
 
 /// Compares with mGBA's frame by `value & 0xf8`; `allowed` says how many steps of 8 a channel may be off a pixel's.
 fn compare(drawn: &Picture, mgba: &Picture, allowed: fn([u8; 3]) -> u8) {
@@ -99,44 +17,16 @@ fn compare(drawn: &Picture, mgba: &Picture, allowed: fn([u8; 3]) -> u8) {
     }
 }
 
-/// Four files of zeros, but for the registers.
-fn write_folder(folder: &Path, registers: &[(usize, u16)]) -> PathBuf {
-    let capture = folder.join("capture");
-    let _ = fs::remove_dir_all(&capture);
-    fs::create_dir(&capture).unwrap();
-    for (name, len) in FILES {
-        fs::write(capture.join(name), vec![0; len]).unwrap();
-    }
-    let mut bytes = [0; 86];
-    for &(offset, value) in registers {
-        bytes[offset..offset + 2].copy_from_slice(&value.to_le_bytes());
-    }
-    fs::write(capture.join("registers.bin"), bytes).unwrap();
-    capture
-}
-
-/// The scene's state as a folder, its video memory of 131,072 bytes.
-fn scene_folder(folder: &Path) -> PathBuf {
-    let state = fs::read(sample("scene.ss0")).unwrap();
-    let capture = write_folder(folder, &[]);
-    let vram = [&state[0x1000..0x19000], &[0; 0x8000]].concat();
-    fs::write(capture.join("vram.bin"), vram).unwrap();
-    fs::write(capture.join("palette.bin"), &state[0x800..0xc00]).unwrap();
-    fs::write(capture.join("oam.bin"), &state[0xc00..0x1000]).unwrap();
-    fs::write(capture.join("registers.bin"), &state[0x400..0x456]).unwrap();
-    capture
-}
-
 #[test]
 fn two_tone_is_mgbas_frame() {
-    let folder = scratch("two_tone");
+    let folder = scratch("frame/two_tone");
     let drawn = drawn(&sample("scene-two-tone.state.png"), &folder, &["--reading", "H"]);
     compare(&drawn, &read_png(&sample("scene-two-tone.mgba-frame.png")), |_| 0);
 }
 
 #[test]
 fn scene_is_mgbas_frame_but_for_its_blending() {
-    let folder = scratch("scene");
+    let folder = scratch("frame/scene");
     let drawn = drawn(&sample("scene.state.png"), &folder, &["--reading", "H"]);
     // mGBA fills a channel's low three bits from its high ones, except where it blended, which it does in 8 bits.
     let blended = |pixel: [u8; 3]| pixel.iter().any(|value| value & 7 != value >> 5).into();
@@ -145,7 +35,7 @@ fn scene_is_mgbas_frame_but_for_its_blending() {
 
 #[test]
 fn every_form_of_a_capture_draws_the_same() {
-    let folder = scratch("forms");
+    let folder = scratch("frame/forms");
     let raw = drawn(&sample("scene.ss0"), &folder, &[]);
     let png = drawn(&sample("scene.state.png"), &folder, &[]);
     assert!(raw.pixels == png.pixels);
@@ -158,7 +48,7 @@ fn every_form_of_a_capture_draws_the_same() {
 
 #[test]
 fn scale_repeats_pixels() {
-    let folder = scratch("scale");
+    let folder = scratch("frame/scale");
     let one = drawn(&sample("scene.ss0"), &folder, &["--scale", "1"]);
     for scale in [2, 16] {
         let many = drawn(&sample("scene.ss0"), &folder, &["--scale", &scale.to_string()]);
@@ -170,35 +60,9 @@ fn scale_repeats_pixels() {
     }
 }
 
-/// Background 2 or 3 as an affine one of 256x256, each tile one colour: the word of palette entry `tile`.
-fn affine_capture(folder: &Path, number: usize, numbers: [i32; 6]) -> PathBuf {
-    let [x, y, pa, pb, pc, pd] = numbers;
-    let at = 0x20 + 0x10 * (number - 2);
-    let words = [pa, pb, pc, pd, x, x >> 16, y, y >> 16];
-    // Map at 0x4000, wrapped, 256x256.
-    let mut registers = vec![(0, 2 | 0x100 << number), (8 + 2 * number, 0x6800)];
-    registers.extend(words.iter().enumerate().map(|(i, &word)| (at + 2 * i, word as u16)));
-    let capture = write_folder(folder, &registers);
-    let mut vram: Vec<u8> = (0..0x4000).map(|i| (i / 64) as u8).collect();
-    vram.extend((0..1024).map(|i| affine_tile(i % 32, i / 32)));
-    vram.resize(131_072, 0);
-    fs::write(capture.join("vram.bin"), vram).unwrap();
-    let palette: Vec<u8> = (0..512).flat_map(|i: u16| affine_colour(i).to_le_bytes()).collect();
-    fs::write(capture.join("palette.bin"), palette).unwrap();
-    capture
-}
-
-fn affine_tile(x: usize, y: usize) -> u8 {
-    ((x * 7 + y * 91) % 255 + 1) as u8
-}
-
-fn affine_colour(tile: u16) -> u16 {
-    tile.wrapping_mul(123) & 0x7fff
-}
-
 #[test]
 fn references_start_from_the_registers_and_step() {
-    let folder = scratch("references");
+    let folder = scratch("frame/references");
     let numbers = [-54_321, 0x40_1234, 0x120, -0x35, 0x17, 0xe5];
     let [x, y, pa, pb, pc, pd] = numbers;
     for (number, reading) in [(2, "R"), (2, "H"), (3, "R"), (3, "H")] {
@@ -220,7 +84,7 @@ fn references_start_from_the_registers_and_step() {
 
 #[test]
 fn a_refused_draw_says_number_meaning_and_line() {
-    let folder = scratch("draw_refused");
+    let folder = scratch("frame/draw_refused");
     let capture = write_folder(&folder, &[(0, 0x0007)]);
     let words = ["line 0", "DISPCNT is 0x0007", "forced blank off, mode 6 or 7", "(refusal 4)"];
     refused(&capture, &folder, &capture, &words, &[]);
@@ -237,7 +101,7 @@ fn a_refused_draw_says_number_meaning_and_line() {
 
 #[test]
 fn damaged_folders_are_refused() {
-    let folder = scratch("folders");
+    let folder = scratch("frame/folders");
     for (name, len) in FILES {
         let damaged = |damage: &dyn Fn(&Path), words: &[&str]| {
             let capture = scene_folder(&folder);
@@ -260,7 +124,7 @@ fn damaged_folders_are_refused() {
 
 #[test]
 fn damaged_states_are_refused() {
-    let folder = scratch("states");
+    let folder = scratch("frame/states");
     let raw = fs::read(sample("scene.ss0")).unwrap();
     let png = fs::read(sample("scene.state.png")).unwrap();
     let capture = folder.join("damaged.ss0");
@@ -283,7 +147,7 @@ fn damaged_states_are_refused() {
 
 #[test]
 fn a_flipped_bit_of_a_png_state_is_refused() {
-    let folder = scratch("flipped");
+    let folder = scratch("frame/flipped");
     let png = fs::read(sample("scene.state.png")).unwrap();
     let kind = png.windows(4).position(|bytes| bytes == b"gbAs").unwrap();
     let length = u32::from_be_bytes(png[kind - 4..kind].try_into().unwrap()) as usize;
@@ -296,9 +160,99 @@ fn a_flipped_bit_of_a_png_state_is_refused() {
     }
 }
 
+/// No sum guards a raw state or a folder, so that a flipped bit may show another picture; it is never more than that.
+#[test]
+fn a_flipped_bit_elsewhere_draws_a_whole_frame_or_none() {
+    let folder = scratch("frame/flipped_elsewhere");
+    let whole = drawn(&sample("scene.ss0"), &folder, &[]);
+    let (mut refusals, mut others) = (0, 0);
+    for (name, len) in FILES {
+        for place in [0, 1, len / 3, len / 2, len - 2, len - 1] {
+            let capture = scene_folder(&folder);
+            let mut bytes = fs::read(capture.join(name)).unwrap();
+            bytes[place] ^= 0x04;
+            fs::write(capture.join(name), bytes).unwrap();
+            let output = folder.join("flipped.png");
+            let run = frame(&capture, &output, &[]);
+            match run.status.code() {
+                Some(0) => others += usize::from(read_png(&output).pixels != whole.pixels),
+                _ => {
+                    check_refused(&run, &capture, &["(refusal "]);
+                    assert!(!output.exists());
+                    refusals += 1;
+                }
+            }
+            let _ = fs::remove_file(&output);
+        }
+    }
+    // The first register's bit 2 makes mode 4 of mode 0, which draws; a bit of palette entry 0 changes the backdrop.
+    assert!(others > 0, "{refusals} refused");
+}
+
+#[test]
+fn a_mode_bit_flipped_is_refused() {
+    let folder = scratch("frame/mode_flipped");
+    let capture = write_folder(&folder, &[(0, 0x0002)]);
+    drawn(&capture, &folder, &[]);
+    fs::write(capture.join("registers.bin"), [&[0x06], &[0; 85][..]].concat()).unwrap();
+    refused(&capture, &folder, &capture, &["DISPCNT is 0x0006", "(refusal 4)"], &[]);
+}
+
+#[test]
+fn what_may_not_be_read_or_written_is_refused() {
+    let unprivileged = Unprivileged::new("frame");
+    let folder = &unprivileged.folder;
+    let state = folder.join("scene.ss0");
+    fs::copy(sample("scene.ss0"), &state).unwrap();
+    let run = |capture: &Path, output: &Path| {
+        unprivileged.run(&["frame", capture.to_str().unwrap(), "-o", output.to_str().unwrap()])
+    };
+    let output = folder.join("frame.png");
+    assert_eq!(run(&state, &output).status.code(), Some(0));
+    fs::remove_file(&output).unwrap();
+    forbid(&state, 0o000);
+    check_refused(&run(&state, &output), &state, &["Permission denied", "expected a folder with vram.bin"]);
+    for (name, len) in FILES {
+        let capture = scene_folder(folder);
+        forbid(&capture.join(name), 0o000);
+        let words = ["Permission denied", &len.to_string()];
+        check_refused(&run(&capture, &output), &capture.join(name), &words);
+    }
+    assert!(!output.exists());
+    let capture = scene_folder(folder);
+    let closed = folder.join("closed");
+    fs::create_dir(&closed).unwrap();
+    forbid(&closed, 0o000);
+    let output = closed.join("frame.png");
+    check_refused(&run(&capture, &output), &output, &["Permission denied", "give -o"]);
+}
+
+#[test]
+fn paths_may_have_spaces() {
+    let folder = scratch("frame/with spaces in it").join(" a b ");
+    fs::create_dir(&folder).unwrap();
+    let state = folder.join("the scene .ss0");
+    fs::copy(sample("scene.ss0"), &state).unwrap();
+    let output = folder.join(" the frame.png");
+    let run = frame(&state, &output, &[]);
+    assert_eq!(run.status.code(), Some(0), "{}", stderr(&run));
+    assert_eq!(read_png(&output).width, 240);
+    fs::write(&state, "").unwrap();
+    refused(&state, &folder, &state, &["0 bytes", "(refusal 2)"], &[]);
+}
+
+#[test]
+fn a_pipe_in_a_folder_is_not_waited_for() {
+    let folder = scratch("frame/pipe");
+    let capture = scene_folder(&folder);
+    fs::remove_file(capture.join("oam.bin")).unwrap();
+    make_pipe(&capture.join("oam.bin"));
+    refused(&capture, &folder, &capture.join("oam.bin"), &["not a file", "expected one of 1024 bytes"], &[]);
+}
+
 #[test]
 fn what_is_no_capture_is_refused() {
-    let folder = scratch("no_capture");
+    let folder = scratch("frame/no_capture");
     let missing = folder.join("missing.ss0");
     refused(&missing, &folder, &missing, &["No such file", "expected a folder with vram.bin"], &[]);
     let directory = folder.join("folder.ss0");
@@ -310,7 +264,7 @@ fn what_is_no_capture_is_refused() {
 
 #[test]
 fn an_output_that_cant_be_written_is_refused() {
-    let folder = scratch("output");
+    let folder = scratch("frame/output");
     let state = folder.join("scene.ss0");
     fs::copy(sample("scene.ss0"), &state).unwrap();
     let capture = scene_folder(&folder);
@@ -336,7 +290,7 @@ fn an_output_that_cant_be_written_is_refused() {
 
 #[test]
 fn an_old_frame_stays_unless_a_new_one_is_drawn() {
-    let folder = scratch("old_frame");
+    let folder = scratch("frame/old_frame");
     let [output, twin, link] = ["frame.png", "twin.png", "link.png"].map(|name| folder.join(name));
     fs::write(&output, "old").unwrap();
     fs::hard_link(&output, &twin).unwrap();
@@ -355,7 +309,7 @@ fn an_old_frame_stays_unless_a_new_one_is_drawn() {
 
 #[test]
 fn bad_usage_is_told_apart() {
-    let folder = scratch("usage");
+    let folder = scratch("frame/usage");
     let capture = sample("scene.ss0");
     let output = folder.join("frame.png");
     let (capture, output) = (capture.to_str().unwrap(), output.to_str().unwrap());

@@ -10,7 +10,7 @@ use borrow.Author.Tests.{lt-ltb}
 use Rattle.rgb15.specs.Colour.{transparent}
 use Rattle.signed.specs.Signed.{within}
 use Rattle.signed.proofs.Order.{and-both}
-use Rattle.rows.specs.Below.{within as between}
+use Rattle.rows.specs.Below.{between}
 use Rattle.regs.specs.declared.ObjMapping.{ObjMapping}
 use Rattle.regs.specs.declared.reading.Reading.{Reading}
 use Rattle.obj.specs.Oam.{Matrix}

@@ -7,7 +7,7 @@ use lib.ListN.{length, getD}
 use mir.Syntax.{w8}
 use mir.Val.{Fits}
 use Rattle.rgb15.specs.Colour.{transparent, isTransparent}
-use Rattle.rows.specs.Below.{within}
+use Rattle.rows.specs.Below.{between}
 use Rattle.rows.specs.Cells.{cellAt, putCell}
 use Rattle.rows.proofs.Cells.{putCell-same, mapRow-cong, mapRow-same}
 use Rattle.rows.proofs.Passed.{PassedPart, passed-from, passed-inside, passed-to}
@@ -100,13 +100,13 @@ module _ (s : ObjAttrs) (color : ℕ → ℕ) where
   -- Where the loop ends every column is put, if the sprite has no pixel in those that the loop left out.
   pub putPart-to : {start end k : ℕ} {entries₀ l : List ℕ}
       → PutPart start end entries₀ k l → end ≤ k
-      → ((k : ℕ) → k < 240 → within start end k ≡ false → color k ≡ transparent)
+      → ((k : ℕ) → k < 240 → between start end k ≡ false → color k ≡ transparent)
       → l ≡ putRow s color entries₀
   putPart-to {start} {end} {entries₀ = entries₀} part k≤ none =
       passed-to entryCells part k≤
-      ∙ mapRow-cong entryCells _ _ 240 entries₀ (λ k k< e. go k k< e (within start end k) refl)
+      ∙ mapRow-cong entryCells _ _ 240 entries₀ (λ k k< e. go k k< e (between start end k) refl)
     where
-      go : (k : ℕ) → k < 240 → (e : Entry) (t : Bool) → within start end k ≡ t
+      go : (k : ℕ) → k < 240 → (e : Entry) (t : Bool) → between start end k ≡ t
           → cond t (putPixel (s .objmode) (s .priority) (color k) e) e ≡ putPixel (s .objmode) (s .priority) (color k) e
       go k k< e true t = refl
       go k k< e false t =

@@ -10,7 +10,7 @@ use Rattle.signed.specs.Signed.{within}
 use Rattle.signed.proofs.Difference.{View, up, down, view, subℕ-view, subℕ-cross, sub-pos-subℕ}
 use Rattle.signed.proofs.Order.{and-both, leb-same}
 use Rattle.signed.proofs.Remainder.{within-subℕ}
-use Rattle.rows.specs.Below.{within as between}
+use Rattle.rows.specs.Below.{between}
 use Rattle.regs.specs.declared.reading.Reading.{Reading}
 use Rattle.obj.specs.Place.{xOf, yOf, boxed, boxHeight, left, top, across, below, onLine}
 use Rattle.obj.specs.declared.attrs.ObjAttrs.{ObjAttrs}

@@ -8,7 +8,7 @@ use native.Mathlib.Numerals.{add-one}
 use native.Mathlib.Omega.{arith}
 use lib.Dec.{eqb, leb, eqb·suc-zero}
 use borrow.Author.Tests.{ne-eqb, eqb-true, eqb-false, le-leb, lt-leb, lt-ltb, le-ltb}
-use Rattle.rows.specs.Below.{allBelow, tally, countBelow, within}
+use Rattle.rows.specs.Below.{allBelow, tally, countBelow, between}
 
 -- What holds of each number below n, and of n, holds of each below the next.
 pub below-suc : (P : ℕ → Type 0) (n : ℕ) → ((k : ℕ) → k < n → P k) → P n → (k : ℕ) → k < suc n → P k
@@ -17,17 +17,17 @@ below-suc P n below last k h =
 
 -- ---- a part of the columns
 
-pub within-inside : (left right k : ℕ) → left ≤ k → k < right → within left right k ≡ true
-unfolding within
-within-inside left right k h u = simp (le-leb left k h, lt-ltb k right u)
+pub between-inside : (left right k : ℕ) → left ≤ k → k < right → between left right k ≡ true
+unfolding between
+between-inside left right k h u = simp (le-leb left k h, lt-ltb k right u)
 
-pub within-before : (left right k : ℕ) → k < left → within left right k ≡ false
-unfolding within
-within-before left right k h = simp (lt-leb left k h)
+pub between-before : (left right k : ℕ) → k < left → between left right k ≡ false
+unfolding between
+between-before left right k h = simp (lt-leb left k h)
 
-pub within-past : (left right k : ℕ) → right ≤ k → within left right k ≡ false
-unfolding within
-within-past left right k h = simp (le-ltb k right h) (and-false (leb left k))
+pub between-past : (left right k : ℕ) → right ≤ k → between left right k ≡ false
+unfolding between
+between-past left right k h = simp (le-ltb k right h) (and-false (leb left k))
 
 -- ---- a test of each number below n
 

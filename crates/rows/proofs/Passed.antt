@@ -4,9 +4,9 @@ use mathlib.Core.List.{List}
 use Prim.Native.Nat.{ℕ, _+_, _*_, _≤_, _<_}
 use native.Mathlib.Omega.{arith}
 use lib.ListN.{length}
-use Rattle.rows.specs.Below.{within}
+use Rattle.rows.specs.Below.{between}
 use Rattle.rows.specs.Cells.{Codec, only, cellAt, putCell, rowOf, mapRow, Exact}
-use Rattle.rows.proofs.Below.{within-inside, within-before, within-past}
+use Rattle.rows.proofs.Below.{between-inside, between-before, between-past}
 use Rattle.rows.proofs.Cells.{length-putCell, length-mapRow, mapRow-none, mapRow-more, mapRow-cong, mapRow-after}
 use Rattle.rows.proofs.Cells.{mapRow-rest, mapRow-same, putAll-all}
 
@@ -61,7 +61,7 @@ module _ {A : Type 0} {w : ℕ} (c : Codec A w) where
   pub record PassedPart (f : ℕ → A → A) (n left right : ℕ) (l₀ : List ℕ) (k : ℕ) (l : List ℕ) : Type 0 where
     pub from : left ≤ k
     pub exact : (j : ℕ) → j < n → Exact c l₀ j
-    pub passed : Passed (only (within left right) f) n l₀ k l
+    pub passed : Passed (only (between left right) f) n l₀ k l
 
   pub passed-from : {f : ℕ → A → A} {n left right : ℕ} {l : List ℕ}
       → length l ≡ w * n → left ≤ n → ((j : ℕ) → j < n → Exact c l j)
@@ -73,7 +73,7 @@ module _ {A : Type 0} {w : ℕ} (c : Codec A w) where
         passed =
             skipped (started h) left (omega arith) u
             (λ k p q. x k (omega arith))
-            (λ k p q. rw (within-before left right k q));
+            (λ k p q. rw (between-before left right k q));
       }
 
   pub passed-inside : {f : ℕ → A → A} {n left right k : ℕ} {l₀ l m : List ℕ} {a : A}
@@ -83,17 +83,17 @@ module _ {A : Type 0} {w : ℕ} (c : Codec A w) where
       record {
         from = omega (arith, p .from);
         exact = p .exact;
-        passed = turned (p .passed) (omega arith) e (rw (within-inside left right k (p .from) h) s);
+        passed = turned (p .passed) (omega arith) e (rw (between-inside left right k (p .from) h) s);
       }
 
   pub passed-to : {f : ℕ → A → A} {n left right k : ℕ} {l₀ l : List ℕ}
       → PassedPart f n left right l₀ k l → right ≤ k
-      → l ≡ mapRow c (only (within left right) f) n l₀
+      → l ≡ mapRow c (only (between left right) f) n l₀
   passed-to {f} {n} {left} {right} {k} {l₀} {l} p h =
       updated
       (skipped (p .passed) n (p .passed .bound) (omega arith)
       (λ j i lt. p .exact j lt)
-      (λ j i lt. rw (within-past left right j (omega arith))))
+      (λ j i lt. rw (between-past left right j (omega arith))))
       (omega arith)
 
   -- ---- a loop over passes

@@ -12,10 +12,10 @@ use lib.ListN.{length, getD, set, take, length-set}
 use lib.Seq.{getD-set-same, getD-set-other, take-suc-set, take-all}
 use borrow.Author.Count.{below-more}
 use borrow.Author.Tests.{ltb-true, ltb-false}
-use Rattle.rows.specs.Below.{within}
+use Rattle.rows.specs.Below.{between}
 use Rattle.rows.specs.Cells.{only}
 use Rattle.rows.specs.Tab.{tab, mapTab}
-use Rattle.rows.proofs.Below.{within-inside, within-before, within-past}
+use Rattle.rows.proofs.Below.{between-inside, between-before, between-past}
 use Rattle.rows.proofs.Tab.{getD-of-tab, tab-ext}
 
 module _ {A : Type 0} where
@@ -180,14 +180,14 @@ module _ {A : Type 0} where
   -- Of n elements those from left up to k are passed, and no loop goes to the others.
   pub record MappedPart (f : ℕ → A → A) (n left right : ℕ) (d : A) (l₀ : List A) (k : ℕ) (l : List A) : Type 0 where
     pub from : left ≤ k
-    pub passed : Mapped (only (within left right) f) n d l₀ k l
+    pub passed : Mapped (only (between left right) f) n d l₀ k l
 
   pub mapped-from : {f : ℕ → A → A} {n left right : ℕ} {d : A} {l : List A} → length l ≡ n → left ≤ n
       → MappedPart f n left right d l left l
   mapped-from {f} {n} {left} {right} h u =
       record {
         from = omega arith;
-        passed = mapped-rest (mapped-none h) left (omega arith) u (λ k p q. rw (within-before left right k q));
+        passed = mapped-rest (mapped-none h) left (omega arith) u (λ k p q. rw (between-before left right k q));
       }
 
   pub mapped-inside : {f : ℕ → A → A} {n left right k : ℕ} {d : A} {l₀ l : List A} {a : A}
@@ -196,13 +196,13 @@ module _ {A : Type 0} where
   mapped-inside {f} {n} {left} {right} {k} p h u e =
       record {
         from = omega (arith, p .from);
-        passed = mapped-more (p .passed) (omega arith) (rw (within-inside left right k (p .from) h) e);
+        passed = mapped-more (p .passed) (omega arith) (rw (between-inside left right k (p .from) h) e);
       }
 
   pub mapped-to : {f : ℕ → A → A} {n left right k : ℕ} {d : A} {l₀ l : List A}
       → MappedPart f n left right d l₀ k l → right ≤ k
-      → l ≡ mapTab (only (within left right) f) n d l₀
+      → l ≡ mapTab (only (between left right) f) n d l₀
   mapped-to {f} {n} {left} {right} p h =
       mapped-all
-      (mapped-rest (p .passed) n (p .passed .bound) (omega arith) (λ j i lt. rw (within-past left right j (omega arith))))
+      (mapped-rest (p .passed) n (p .passed .bound) (omega arith) (λ j i lt. rw (between-past left right j (omega arith))))
       (omega arith)

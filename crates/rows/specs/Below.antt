@@ -19,5 +19,5 @@ abbrev pub countBelow : (ℕ → Bool) → ℕ → ℕ
 countBelow test = tally (λ k. cond (test k) 1 0)
 
 -- Whether k lies from left on and before right.
-unfoldable pub within : ℕ → ℕ → ℕ → Bool
-within left right k = leb left k && ltb k right
+unfoldable pub between : ℕ → ℕ → ℕ → Bool
+between left right k = leb left k && ltb k right

@@ -1,12 +1,11 @@
 // Rows of four-byte words, and the marks of 240 columns. The laws of rows are in proofs/.
 ghost use mathlib.Core.Path.{_≡_};
-ghost use Prim.Native.Nat.{_+_, _*_, _≤_, _<_};
+ghost use Prim.Native.Nat.{_+_, _*_, _≤_};
 ghost use lib.Count.{ones};
 ghost use lib.ListN.{length};
-ghost use Rattle.rows.specs.Below.{within};
 ghost use Rattle.rows.specs.Cells.{cellAt, putCell};
 ghost use Rattle.rows.specs.Words.{wordCells};
-ghost use Rattle.rows.specs.Marks.{marked, withMark, markAll, countMarks, Clean};
+ghost use Rattle.rows.specs.Marks.{countMarks, Clean};
 
 // The number in four bytes, the low one first.
 fn word_of(a: u8, b: u8, c: u8, d: u8) -> u32
@@ -34,41 +33,6 @@ pub fn put_word(row: &mut [u8], k: usize, w: u32)
     row[i + 1] = (w / 0x100 % 0x100) as u8;
     row[i + 2] = (w / 0x10000 % 0x100) as u8;
     row[i + 3] = (w / 0x1000000) as u8;
-}
-
-// Whether column k is marked.
-pub fn is_marked(marks: [u64; 4], k: usize) -> bool
-    requires { ⌜ k < 240 ⌝ }
-    ensures { λ r. ⌜ r ≡ marked marks k ⌝ }
-{
-    let word = marks[k / 64];
-    (word >> (k % 64)) % 2 == 1
-}
-
-// The marks with column k marked.
-pub fn with_mark(mut marks: [u64; 4], k: usize) -> [u64; 4]
-    requires { ⌜ k < 240 ⌝ }
-    ensures { λ r. ⌜ r ≡ withMark marks k ⌝ }
-{
-    let i = k / 64;
-    let word = marks[i];
-    marks[i] = word | (1u64 << (k % 64));
-    marks
-}
-
-// The marks with the columns from left up to right marked.
-pub fn mark_columns(marks: [u64; 4], left: usize, right: usize) -> [u64; 4]
-    requires { ⌜ (left ≤ 240) × (right ≤ 240) ⌝ }
-    ensures { λ r. ⌜ r ≡ markAll (within left right) 240 marks ⌝ }
-{
-    let mut all = marks;
-    let mut k = left;
-    while k < right {
-        let next = with_mark(all, k);
-        all = next;
-        k += 1;
-    }
-    all
 }
 
 // How many marks a word has.

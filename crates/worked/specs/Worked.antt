@@ -1,18 +1,26 @@
 -- The examples that document 01 marks P, as one table under a single statement (01, "Checked examples"). Assumes nothing.
+use Prim.Native.Nat.{ℕ}
 use mathlib.Core.Path.{_≡_, refl}
-use mathlib.Core.Bool.{true, false}
-use mathlib.Core.List.{[], _∷_}
-use lib.Dec.{leb}
+use mathlib.Core.Bool.{true, false, cond}
+use mathlib.Core.List.{List, [], _∷_}
+use lib.Dec.{eqb, leb}
 use lib.IntN.{pos, negℤ}
 use Rattle.rows.specs.Tab.{tab}
-use Rattle.rgb15.specs.Colour.{toRgb24, isTransparent, blendChannel}
+use Rattle.rgb15.specs.Colour.{red, black, white, toRgb24, isTransparent, blendChannel, blendWith}
 use Rattle.memory.specs.Memory.{half}
+use Rattle.memory.specs.Sizes.{registersSize}
+use Rattle.regs.specs.Registers.{BLDALPHA}
 use Rattle.regs.specs.declared.reading.Reading.the-variants.{R, H}
 use Rattle.regs.specs.Reading.{counted}
 use Rattle.regs.specs.Windows.{farEdge, inColumns}
 use Rattle.background.specs.Regular.{regularX, regularY, mapBlock, mapOffset}
 use Rattle.background.specs.Bitmap.{bitmapPixel}
 use Rattle.obj.specs.Place.{xOf, yOf}
+use Rattle.sfx.specs.Effects.{alpha, fade}
+
+-- Registers of zeros but for EVA, which is 31.
+abbrev eva31 : List ℕ
+eva31 = tab (λ at. cond (eqb at BLDALPHA) 31 0) registersSize
 
 -- Every example, in the document's order.
 pub record Table : Type 0 where
@@ -27,11 +35,11 @@ pub record Table : Type 0 where
   pub halves : blendChannel 10 20 8 8 ≡ 15
   pub capped : blendChannel 31 31 16 16 ≡ 31
   -- Black, evy 1, channel 31: 29. White, evy 1, channel 0: 1.
-  pub blacker : blendChannel 31 0 15 1 ≡ 29
-  pub whiter : blendChannel 0 31 15 1 ≡ 1
+  pub blacker : red (fade 1 31 black) ≡ 29
+  pub whiter : red (fade 1 0 white) ≡ 1
   -- Channel 20, EVA 31, EVB 0, other 0: R 31, H 20.
-  pub weights-R : blendChannel 20 0 (counted R 31) (counted R 0) ≡ 31
-  pub weights-H : blendChannel 20 0 (counted H 31) (counted H 0) ≡ 20
+  pub weights-R : red (alpha R eva31 20 0) ≡ 31
+  pub weights-H : red (alpha H eva31 20 0) ≡ 20
   -- 512x512, both offsets 255: column 1, line 1 is block 3, map offset 0; column 0, line 0 is block 0, offset 2,046.
   pub block-far : mapBlock 512 (regularX 0xc000 255 1) (regularY 0xc000 255 1) ≡ 3
   pub offset-far : mapOffset (regularX 0xc000 255 1) (regularY 0xc000 255 1) ≡ 0
@@ -46,7 +54,7 @@ pub record Table : Type 0 where
   pub beyond : tab (inColumns 250 5) 240 ≡ tab (λ _. false) 240
 
 pub table : Table
-unfolding yOf xOf blendChannel counted farEdge tab half bitmapPixel
+unfolding yOf xOf blendChannel blendWith alpha fade counted farEdge tab half bitmapPixel
 table = record {
   y-last = refl;
   y-first-above = refl;

@@ -102,7 +102,7 @@ pub struct Case {
 }
 
 /// How many cases in a row share their video memories, so that a run need not fill 128 KiB for each.
-const SCENE_CASES: u64 = 64;
+pub const SCENE_CASES: u64 = 64;
 
 /// The cases of a seed. The scene of the last case is kept, and made anew where it isn't the one wanted.
 pub struct Cases {

@@ -1,0 +1,21 @@
+-- ashlarkin::ashlarkin_step meets its contract, which is the step's.
+-- Assumes nothing.
+use mathlib.Core.Path.{ap, _∙_}
+use mir.Facts.{toZ-ofZ}
+use borrow.Author.Needs.{needs}
+use Rattle.gpu.specs.Step.{step}
+use Rattle.gpu.proofs.Answers.{steps-are}
+use Rattle.ashlarkin.proofs.ashlarkin_step.Statement.{statement}
+use Rattle.ashlarkin.proofs.ashlarkin_step.Tie as tie
+
+returns : tie.Need-returns
+returns c =
+    let stepped = c .before .before in
+    let start = stepped .before .before .before in
+    let fits = start .fits in
+    stepped .step .ensures
+    ∙ ap (λ s. step s (start .args .references .now))
+    (steps-are (toZ-ofZ (fits .pb2)) (toZ-ofZ (fits .pd2)) (toZ-ofZ (fits .pb3)) (toZ-ofZ (fits .pd3)))
+
+pub ashlarkin-step-spec : {M : Type 1} → statement M
+ashlarkin-step-spec = tie.close (tie.spec (search needs) (search needs) returns)

@@ -1,0 +1,66 @@
+// The routines that a host program in C or Rust calls: include/ashlarkin.h says the same in C. Lent buffers don't overlap.
+ghost use Rattle.gpu.specs.Judge.{callOf};
+ghost use Rattle.gpu.specs.Draw.{Draws};
+ghost use Rattle.gpu.specs.Reset.{Resets};
+ghost use Rattle.gpu.specs.Step.{StepsTo};
+
+// A line drawn: 0, or the number of the refusal, which changes nothing lent.
+#[no_mangle]
+pub extern "C" fn ashlarkin_draw(
+    reading: u32,
+    line: u32,
+    x2: i32,
+    y2: i32,
+    x3: i32,
+    y3: i32,
+    vram: &[u8],
+    palette: &[u8],
+    oam: &[u8],
+    registers: &[u8],
+    entries: &mut [u8],
+    output: &mut [u8],
+) -> u32
+    ensures { λ n.
+        ⌜ Draws
+        (callOf reading line x2 y2 x3 y3
+        (now (vram .entry)) (now (palette .entry)) (now (oam .entry)) (now (registers .entry)))
+        (now (entries .entry)) (now (output .entry)) n (now (entries .exit)) (now (output .exit)) ⌝ }
+{
+    gpu::draw(
+        reading,
+        line,
+        x2,
+        y2,
+        x3,
+        y3,
+        vram,
+        palette,
+        oam,
+        registers,
+        entries,
+        output,
+    )
+}
+
+// A row of entries reset: 0, or 2 for another length.
+#[no_mangle]
+pub extern "C" fn ashlarkin_reset(entries: &mut [u8]) -> u32
+    ensures { λ n. ⌜ Resets (now (entries .entry)) n (now (entries .exit)) ⌝ }
+{
+    gpu::reset(entries)
+}
+
+// The four reference numbers stepped at a line's end: 0, or 2 for another length, or 6.
+#[no_mangle]
+pub extern "C" fn ashlarkin_step(
+    pb2: i16,
+    pd2: i16,
+    pb3: i16,
+    pd3: i16,
+    references: &mut [u8],
+) -> u32
+    ensures { λ n.
+        ⌜ StepsTo (record { pb2 = pb2; pd2 = pd2; pb3 = pb3; pd3 = pd3 }) (now (references .entry)) n (now (references .exit)) ⌝ }
+{
+    gpu::step(pb2, pd2, pb3, pd3, references)
+}

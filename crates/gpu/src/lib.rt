@@ -1,0 +1,249 @@
+// The public routines on numbers and bytes (gpu/mod.rs).
+ghost use mathlib.Core.Path.{_≡_};
+ghost use mathlib.Core.Bool.{true};
+ghost use lib.ListN.{length};
+ghost use Rattle.memory.specs.Sizes.{registersSize};
+ghost use Prim.Native.Nat.{_<_};
+ghost use Rattle.rgb15.specs.Colour.{rgb};
+ghost use Rattle.rows.specs.Tab.{tab};
+ghost use Rattle.regs.specs.Display.{mode};
+ghost use Rattle.regs.specs.Registers.{dispcnt};
+ghost use Rattle.background.specs.Lent.{Lent};
+ghost use Rattle.gpu.specs.Judge.{outputSize, inRanges, callOf};
+ghost use Rattle.gpu.specs.Line.{entriesAfter, lineAfter, blankLine};
+ghost use Rattle.gpu.specs.Ready.{Ready, placeColor};
+ghost use Rattle.gpu.specs.Draw.{Draws};
+ghost use Rattle.gpu.specs.Reset.{Resets};
+
+mod judge;
+mod references;
+
+use background::render_bg;
+use judge::ENTRIES_SIZE;
+pub use judge::Verdict;
+pub use judge::judge_draw;
+use memory::DISPLAY_WIDTH;
+use obj::render_objs;
+use obj::reset_row;
+pub use references::Stepped;
+pub use references::step;
+pub use references::step_references;
+use regs::Reading;
+use regs::iodev::read_dispcnt;
+use rgb15::Rgb15;
+use rows::put_word;
+use sfx::finalize_scanline;
+use sfx::sort_backgrounds;
+
+// What forced blank shows.
+const BLANK: u32 = 0xf8f8f8;
+
+// The line of the background in a place; a place of 4 has none.
+fn render_place(
+    vram: &[u8],
+    palette: &[u8],
+    registers: &[u8],
+    x2: i32,
+    y2: i32,
+    x3: i32,
+    y3: i32,
+    place: usize,
+    line: usize,
+) -> [Rgb15; 240]
+    requires { ⌜ Lent (now vram) (now palette)
+        × (length (now registers) ≡ registersSize)
+        × (mode (dispcnt (now registers)) < 6)
+        × (inRanges (record { x2 = x2; y2 = y2; x3 = x3; y3 = y3 }) ≡ true)
+        × (line < 160) ⌝ }
+    ensures { λ r.
+        ⌜ r
+        ≡ tab
+        (λ column.
+        rgb
+        (placeColor (now (vram .entry)) (now (palette .entry)) (now (registers .entry))
+        (record { x2 = x2; y2 = y2; x3 = x3; y3 = y3 }) place column line))
+        240 ⌝ }
+{
+    if place < 4 {
+        render_bg(vram, palette, registers, x2, y2, x3, y3, place, line)
+    } else {
+        [Rgb15::TRANSPARENT; 240]
+    }
+}
+
+// The backgrounds, each straight into its place, and the line composed of them and the entries.
+fn render_line(
+    reading: u32,
+    line: u32,
+    x2: i32,
+    y2: i32,
+    x3: i32,
+    y3: i32,
+    vram: &[u8],
+    palette: &[u8],
+    oam: &[u8],
+    registers: &[u8],
+    entries: &[u8],
+    output: &mut [u8],
+)
+    requires { ⌜ Ready (callOf reading line x2 y2 x3 y3 (now vram) (now palette) (now oam) (now registers)) (now entries) (now output) ⌝ }
+    ensures { λ _. ⌜ now (output .exit)
+        ≡ lineAfter
+        (callOf reading line x2 y2 x3 y3
+        (now (vram .entry)) (now (palette .entry)) (now (oam .entry)) (now (registers .entry)))
+        (now (entries .entry)) ⌝ }
+{
+    let y = line as usize;
+    let places = sort_backgrounds(read_dispcnt(registers), registers);
+    let line0 = render_place(vram, palette, registers, x2, y2, x3, y3, places[0], y);
+    let line1 = render_place(vram, palette, registers, x2, y2, x3, y3, places[1], y);
+    let line2 = render_place(vram, palette, registers, x2, y2, x3, y3, places[2], y);
+    let line3 = render_place(vram, palette, registers, x2, y2, x3, y3, places[3], y);
+    finalize_scanline(
+        output,
+        entries,
+        palette,
+        registers,
+        Reading::from(reading),
+        y,
+        places,
+        line0,
+        line1,
+        line2,
+        line3,
+    );
+}
+
+// The sprites put in the entries, if sprites are on.
+fn update_objs(
+    reading: u32,
+    line: u32,
+    x2: i32,
+    y2: i32,
+    x3: i32,
+    y3: i32,
+    vram: &[u8],
+    palette: &[u8],
+    oam: &[u8],
+    registers: &[u8],
+    entries: &mut [u8],
+    output: &[u8],
+)
+    requires { ⌜ Ready (callOf reading line x2 y2 x3 y3 (now vram) (now palette) (now oam) (now registers)) (now entries) (now output) ⌝ }
+    ensures { λ _. ⌜ now (entries .exit)
+        ≡ entriesAfter
+        (callOf reading line x2 y2 x3 y3
+        (now (vram .entry)) (now (palette .entry)) (now (oam .entry)) (now (registers .entry)))
+        (now (entries .entry)) ⌝ }
+{
+    let display = read_dispcnt(registers);
+    if display.enable_obj {
+        render_objs(
+            entries,
+            vram,
+            palette,
+            oam,
+            registers,
+            Reading::from(reading),
+            line as usize,
+        );
+    }
+}
+
+// A line of forced blank.
+fn blank_line(output: &mut [u8])
+    requires { ⌜ length (now output) ≡ outputSize ⌝ }
+    ensures { λ _. ⌜ now (output .exit) ≡ blankLine ⌝ }
+{
+    let mut x: usize = 0;
+    while x < DISPLAY_WIDTH {
+        put_word(output, x, BLANK);
+        x += 1;
+    }
+}
+
+// A line drawn, or refused with its number and nothing lent changed (the Rust's `render_scanline`).
+pub fn draw(
+    reading: u32,
+    line: u32,
+    x2: i32,
+    y2: i32,
+    x3: i32,
+    y3: i32,
+    vram: &[u8],
+    palette: &[u8],
+    oam: &[u8],
+    registers: &[u8],
+    entries: &mut [u8],
+    output: &mut [u8],
+) -> u32
+    ensures { λ n.
+        ⌜ Draws
+        (callOf reading line x2 y2 x3 y3
+        (now (vram .entry)) (now (palette .entry)) (now (oam .entry)) (now (registers .entry)))
+        (now (entries .entry)) (now (output .entry)) n (now (entries .exit)) (now (output .exit)) ⌝ }
+{
+    let verdict = judge_draw(
+        reading,
+        line,
+        x2,
+        y2,
+        x3,
+        y3,
+        vram,
+        palette,
+        oam,
+        registers,
+        entries,
+        output,
+    );
+    match verdict {
+        Verdict::Accepted => {
+            update_objs(
+                reading,
+                line,
+                x2,
+                y2,
+                x3,
+                y3,
+                vram,
+                palette,
+                oam,
+                registers,
+                entries,
+                output,
+            );
+            render_line(
+                reading,
+                line,
+                x2,
+                y2,
+                x3,
+                y3,
+                vram,
+                palette,
+                oam,
+                registers,
+                entries,
+                output,
+            );
+            0
+        }
+        Verdict::Blank => {
+            blank_line(output);
+            0
+        }
+        _ => verdict.number(),
+    }
+}
+
+// A row of entries reset: 0, or 2 for another length.
+pub fn reset(entries: &mut [u8]) -> u32
+    ensures { λ n. ⌜ Resets (now (entries .entry)) n (now (entries .exit)) ⌝ }
+{
+    if entries.len() != ENTRIES_SIZE {
+        return 2;
+    }
+    reset_row(entries);
+    0
+}

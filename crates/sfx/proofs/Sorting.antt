@@ -1,0 +1,147 @@
+-- Laws of the order of backgrounds: the exchanges of code give it. No contract cites this file. Assumes nothing.
+use Prim.Native.Nat.{ℕ, _+_, _*_, _≤_, _<_, min, max}
+use native.Mathlib.Omega.{arith}
+use mathlib.Core.Path.{_≡_, refl, sym, ap, _∙_}
+use mathlib.Core.Bool.{Bool, true, false, cond, _&&_, and-eq-true-iff}
+use mathlib.Core.List.{List, [], _∷_, _++_}
+use lib.Dec.{eqb, leb, ltb}
+use lib.ListN.{length, getD}
+use borrow.Author.Tests.{eqb-true, leb-true}
+use Rattle.bits.specs.Bits.{bits}
+use Rattle.regs.specs.Registers.{dispcnt, bgcnt}
+use Rattle.regs.specs.Display.{enableBg}
+use Rattle.regs.specs.Background.{priority}
+use Rattle.rows.specs.Below.{allBelow}
+use Rattle.rows.proofs.Below.{allBelow-at}
+use Rattle.sfx.specs.Layers.{keep, stands, standing, ordered}
+use Rattle.sfx.specs.Places.{places}
+use Rattle.sfx.specs.Sorting.{sortKey, sortedKeys, keyPlace}
+
+-- A background's rank: its priority, or 4 if it is off.
+abbrev pub rank : List ℕ → ℕ → ℕ
+rank registers bg = cond (getD (enableBg (dispcnt registers)) bg false) (priority (bgcnt registers bg)) 4
+
+rank-bound : (on : Bool) (w : ℕ) → cond on (bits 1 0 w) 4 < 5
+rank-bound true w = omega arith
+rank-bound false w = omega arith
+
+-- A background stands at a priority if that is its rank.
+rank-stands : (on : Bool) (n p : ℕ) → eqb 4 p ≡ false → (on && eqb n p) ≡ eqb (cond on n 4) p
+rank-stands true n p e = refl
+rank-stands false n p e = sym e
+
+-- Backgrounds 0 to 3, each if its test holds.
+four : Bool → Bool → Bool → Bool → List ℕ
+four a b c d = keep (λ bg. getD (a ∷ b ∷ c ∷ d ∷ []) bg false) (0 ∷ 1 ∷ 2 ∷ 3 ∷ [])
+
+-- The order by the four ranks.
+atRank : ℕ → ℕ → ℕ → ℕ → ℕ → List ℕ
+atRank a b c d p = four (eqb a p) (eqb b p) (eqb c p) (eqb d p)
+
+orderOf : ℕ → ℕ → ℕ → ℕ → List ℕ
+orderOf a b c d = atRank a b c d 0 ++ atRank a b c d 1 ++ atRank a b c d 2 ++ atRank a b c d 3
+
+module _ (registers : List ℕ) where
+  stands-rank : (p bg : ℕ) → eqb 4 p ≡ false → stands registers p bg ≡ eqb (rank registers bg) p
+  unfolding stands
+  stands-rank p bg e = rank-stands (getD (enableBg (dispcnt registers)) bg false) (priority (bgcnt registers bg)) p e
+
+  standing-ranks : (p : ℕ) → eqb 4 p ≡ false
+      → standing registers p ≡ atRank (rank registers 0) (rank registers 1) (rank registers 2) (rank registers 3) p
+  unfolding keep four atRank
+  standing-ranks p e = rw (stands-rank p 0 e, stands-rank p 1 e, stands-rank p 2 e, stands-rank p 3 e)
+
+  ordered-ranks : ordered registers ≡ orderOf (rank registers 0) (rank registers 1) (rank registers 2) (rank registers 3)
+  unfolding ordered orderOf
+  ordered-ranks = cc (standing-ranks 0 refl, standing-ranks 1 refl, standing-ranks 2 refl, standing-ranks 3 refl)
+
+-- ---- what a computed test of all ranks shows
+
+allRanks : (ℕ → ℕ → ℕ → ℕ → Bool) → Bool
+allRanks test = allBelow (λ a. allBelow (λ b. allBelow (λ c. allBelow (λ d. test a b c d) 5) 5) 5) 5
+
+module _ (test : ℕ → ℕ → ℕ → ℕ → Bool) (all : allRanks test ≡ true) (registers : List ℕ) where
+  test-ranks : test (rank registers 0) (rank registers 1) (rank registers 2) (rank registers 3) ≡ true
+  unfolding allRanks
+  test-ranks =
+      let a< = rank-bound (getD (enableBg (dispcnt registers)) 0 false) (bgcnt registers 0) in
+      let b< = rank-bound (getD (enableBg (dispcnt registers)) 1 false) (bgcnt registers 1) in
+      let c< = rank-bound (getD (enableBg (dispcnt registers)) 2 false) (bgcnt registers 2) in
+      let d< = rank-bound (getD (enableBg (dispcnt registers)) 3 false) (bgcnt registers 3) in
+      allBelow-at _ 5 (allBelow-at _ 5 (allBelow-at _ 5 (allBelow-at _ 5 all _ a<) _ b<) _ c<) _ d<
+
+same : List ℕ → List ℕ → Bool
+same [] [] = true
+same [] (b ∷ l) = false
+same (a ∷ k) [] = false
+same (a ∷ k) (b ∷ l) = eqb a b && same k l
+
+same-true : (k l : List ℕ) → same k l ≡ true → k ≡ l
+unfolding same
+same-true [] [] e = refl
+same-true [] (b ∷ l) e = cc
+same-true (a ∷ k) [] e = cc
+same-true (a ∷ k) (b ∷ l) e =
+    let parts = and-eq-true-iff (eqb a b) (same k l) .0 e in
+    cc (eqb-true a b (parts .0), same-true k l (parts .1))
+
+-- The places that code makes of four ranks.
+placesOf : ℕ → ℕ → ℕ → ℕ → List ℕ
+placesOf a b c d =
+    let keys = sortedKeys (4 * a + 0) (4 * b + 1) (4 * c + 2) (4 * d + 3) in
+    keyPlace (getD keys 0 0) ∷ keyPlace (getD keys 1 0) ∷ keyPlace (getD keys 2 0) ∷ keyPlace (getD keys 3 0) ∷ []
+
+places-all : allRanks (λ a b c d. same (placesOf a b c d) (places (orderOf a b c d))) ≡ true
+unfolding allRanks allBelow same placesOf sortedKeys places orderOf atRank four keep
+places-all = refl
+
+-- Whether each of a list is a background's number.
+unfoldable pub small : List ℕ → Bool
+small [] = true
+small (bg ∷ rest) = ltb bg 4 && small rest
+
+small-all : allRanks (λ a b c d. small (orderOf a b c d)) ≡ true
+unfolding allRanks allBelow small orderOf atRank four keep
+small-all = refl
+
+length-all : allRanks (λ a b c d. leb (length (orderOf a b c d)) 4) ≡ true
+unfolding allRanks allBelow orderOf atRank four keep
+length-all = refl
+
+-- ---- the order
+
+-- The keys that ten calls put in order.
+pub sortedKeys-are : (a b c d : ℕ) {e f g h i j p q r s : ℕ}
+    → e ≡ min a b → f ≡ max a b → g ≡ min c d → h ≡ max c d
+    → i ≡ max e g → j ≡ min f h
+    → p ≡ min e g → q ≡ min i j → r ≡ max i j → s ≡ max f h
+    → p ∷ q ∷ r ∷ s ∷ [] ≡ sortedKeys a b c d
+unfolding sortedKeys
+sortedKeys-are a b c d e-is f-is g-is h-is i-is j-is p-is q-is r-is s-is =
+    rw (p-is, q-is, r-is, s-is, i-is, j-is, e-is, f-is, g-is, h-is)
+
+-- The places that code makes are those of the order.
+pub places-sorted : (registers : List ℕ) {on : List Bool} {a b c d p q r s : ℕ} {keys : List ℕ}
+    → on ≡ enableBg (dispcnt registers)
+    → a ≡ sortKey (getD on 0 false) (priority (bgcnt registers 0)) 0
+    → b ≡ sortKey (getD on 1 false) (priority (bgcnt registers 1)) 1
+    → c ≡ sortKey (getD on 2 false) (priority (bgcnt registers 2)) 2
+    → d ≡ sortKey (getD on 3 false) (priority (bgcnt registers 3)) 3
+    → keys ≡ sortedKeys a b c d
+    → p ≡ keyPlace (getD keys 0 0)
+    → q ≡ keyPlace (getD keys 1 0)
+    → r ≡ keyPlace (getD keys 2 0)
+    → s ≡ keyPlace (getD keys 3 0)
+    → p ∷ q ∷ r ∷ s ∷ [] ≡ places (ordered registers)
+unfolding placesOf
+places-sorted registers on-is a-is b-is c-is d-is keys-is p-is q-is r-is s-is =
+    rw (p-is, q-is, r-is, s-is, keys-is, a-is, b-is, c-is, d-is, on-is, ordered-ranks registers)
+    (same-true _ _ (test-ranks _ places-all registers))
+
+-- At most four backgrounds stand in the order.
+pub length-ordered : (registers : List ℕ) → length (ordered registers) ≤ 4
+length-ordered registers = rw (ordered-ranks registers) (leb-true _ 4 (test-ranks _ length-all registers))
+
+-- What stands in the order are backgrounds' numbers.
+pub small-ordered : (registers : List ℕ) → small (ordered registers) ≡ true
+small-ordered registers = rw (ordered-ranks registers) (test-ranks _ small-all registers)

@@ -1,0 +1,4 @@
+-- What regions are. Assumes nothing.
+pub mod Region
+pub mod Row
+pub mod Walk

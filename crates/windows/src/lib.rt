@@ -1,0 +1,234 @@
+// Regions of a line (gpu/sfx.rs, the walks of `finalize_scanline`; gpu/window.rs).
+ghost use mathlib.Core.Path.{_≡_};
+ghost use mathlib.Core.Bool.{cond, _&&_};
+ghost use Prim.Native.Nat.{_-_, _^_, _≤_, _<_, min};
+ghost use lib.ListN.{length};
+ghost use Rattle.rows.specs.Cells.{cellAt, only};
+ghost use Rattle.rows.specs.Marks.{markAll};
+ghost use Rattle.rows.specs.Tab.{tab, mapTab};
+ghost use Rattle.memory.specs.Sizes.{registersSize};
+ghost use Rattle.regs.specs.Windows.{inColumns, inRows};
+ghost use Rattle.obj.specs.Entry.{entriesSize, entryCells, windowMark};
+ghost use Rattle.windows.specs.Region.{permitted, inWindow0, inWindow1};
+ghost use Rattle.windows.specs.Row.{regionRow};
+ghost use Rattle.windows.specs.Walk.{holds, Spanned, ColumnsOf, walkedRow};
+use memory::DISPLAY_WIDTH;
+use obj::entry_at;
+use regs::Reading;
+use regs::Window;
+use regs::WindowFlags;
+use regs::iodev::read_dispcnt;
+use regs::iodev::read_win0;
+use regs::iodev::read_win1;
+use regs::iodev::read_winobj_flags;
+use regs::iodev::read_winout_flags;
+use rows::count_marks;
+
+// The Rust's kinds of window: a column's region.
+pub enum WindowType {
+    Win0,
+    Win1,
+    WinObj,
+    WinOut,
+    WinNone,
+}
+
+// A word for each region; what the words say is the caller's.
+pub struct RegionWords {
+    pub win0: u32,
+    pub win1: u32,
+    pub winobj: u32,
+    pub winout: u32,
+    pub winnone: u32,
+}
+
+// The columns from left on and before right.
+struct Columns {
+    left: usize,
+    right: usize,
+}
+
+// What a region permits.
+pub fn window_flags(registers: &[u8], kind: WindowType) -> WindowFlags
+    requires { ⌜ length (now registers) ≡ registersSize ⌝ }
+    ensures { λ f. ⌜ f .0 ≡ permitted (now (registers .entry)) kind ⌝ }
+{
+    match kind {
+        WindowType::Win0 => read_win0(registers).flags,
+        WindowType::Win1 => read_win1(registers).flags,
+        WindowType::WinObj => read_winobj_flags(registers),
+        WindowType::WinOut => read_winout_flags(registers),
+        WindowType::WinNone => WindowFlags::all(),
+    }
+}
+
+// The columns that a window claims on a line: none where it is off or its rows don't hold the line.
+fn claimed_columns(on: bool, rows: Window, columns: Window, line: usize) -> Columns
+    ensures { λ c.
+        ⌜ ColumnsOf (λ x. (on && inRows (rows .top) (rows .bottom) line) && inColumns (columns .left) (columns .right) x) c ⌝ }
+{
+    let left = columns.left();
+    let right = columns.right();
+    if on & rows.contains_y(line) & (left < right) {
+        Columns { left, right }
+    } else {
+        Columns { left: 0, right: 0 }
+    }
+}
+
+// The columns that window 0 claims.
+fn win0_columns(registers: &[u8], line: usize) -> Columns
+    requires { ⌜ length (now registers) ≡ registersSize ⌝ }
+    ensures { λ c. ⌜ ColumnsOf (λ x. inWindow0 (now (registers .entry)) x line) c ⌝ }
+{
+    let dispcnt = read_dispcnt(registers);
+    let win0 = read_win0(registers);
+    claimed_columns(dispcnt.enable_window0, win0, win0, line)
+}
+
+// The columns that window 1 claims; the Rust tests its rows, and then walks window 0's columns.
+fn win1_columns(registers: &[u8], reading: Reading, line: usize) -> Columns
+    requires { ⌜ length (now registers) ≡ registersSize ⌝ }
+    ensures { λ c. ⌜ ColumnsOf (λ x. inWindow1 reading (now (registers .entry)) x line) c ⌝ }
+{
+    let dispcnt = read_dispcnt(registers);
+    let win0 = read_win0(registers);
+    let win1 = read_win1(registers);
+    match reading {
+        Reading::R => claimed_columns(dispcnt.enable_window1, win1, win0, line),
+        Reading::H => claimed_columns(dispcnt.enable_window1, win1, win1, line),
+    }
+}
+
+// How far a column lies past the first of a word, or 0.
+fn past(column: usize, first: usize) -> usize
+    ensures { λ r. ⌜ r ≡ column - first ⌝ }
+{
+    if column < first { 0 } else { column - first }
+}
+
+// A word with its n lowest marks set, or all of them.
+fn low_marks(n: usize) -> u64
+    ensures { λ r. ⌜ r ≡ 2 ^ min 64 n - 1 ⌝ }
+{
+    if n < 64 {
+        (1u64 << n) - 1
+    } else {
+        0xffff_ffff_ffff_ffff
+    }
+}
+
+// The marks of columns in one word, whose 64 columns start at first.
+fn marks_in(columns: Columns, first: usize) -> u64
+    requires { ⌜ columns .left ≤ columns .right ⌝ }
+    ensures { λ r. ⌜ r ≡ 2 ^ min 64 (columns .right - first) - 2 ^ min 64 (columns .left - first) ⌝ }
+{
+    low_marks(past(columns.right, first)) - low_marks(past(columns.left, first))
+}
+
+// The marks with columns claimed, a word at a time: `rows::mark_columns` goes a column at a time, which is far slower.
+fn claim(occupied: [u64; 4], columns: Columns) -> [u64; 4]
+    requires { ⌜ Spanned columns ⌝ }
+    ensures { λ r. ⌜ r ≡ markAll (holds columns) 240 occupied ⌝ }
+{
+    [
+        occupied[0] | marks_in(columns, 0),
+        occupied[1] | marks_in(columns, 64),
+        occupied[2] | marks_in(columns, 128),
+        occupied[3] | marks_in(columns, 192),
+    ]
+}
+
+// The row with columns set to a word.
+fn paint(row: [u32; 240], columns: Columns, word: u32) -> [u32; 240]
+    requires { ⌜ Spanned columns ⌝ }
+    ensures { λ r. ⌜ r ≡ mapTab (only (holds columns) (λ _ _. word)) 240 0 row ⌝ }
+{
+    let mut painted = row;
+    let right = columns.right;
+    let mut x = columns.left;
+    while x < right {
+        painted[x] = word;
+        x += 1;
+    }
+    painted
+}
+
+// The word of a column in the object window or outside, by the entry's mark.
+fn unclaimed_word(entries: &[u8], x: usize, winobj: u32, winout: u32) -> u32
+    requires { ⌜ (length (now entries) ≡ entriesSize) × (x < 240) ⌝ }
+    ensures { λ r. ⌜ r ≡ cond (windowMark (cellAt entryCells (now (entries .entry)) x)) winobj winout ⌝ }
+{
+    let e = entry_at(entries, x);
+    if e.marks / 0x2 % 2 == 1 {
+        winobj
+    } else {
+        winout
+    }
+}
+
+// The row of a line on which windows 0 and 1 claim nothing.
+fn unclaimed_row(entries: &[u8], obj_window: bool, winobj: u32, winout: u32) -> [u32; 240]
+    requires { ⌜ length (now entries) ≡ entriesSize ⌝ }
+    ensures { λ r.
+        ⌜ r ≡ tab (λ x. cond («obj_window» && windowMark (cellAt entryCells (now (entries .entry)) x)) winobj winout) 240 ⌝ }
+{
+    let mut row = [winout; 240];
+    if !obj_window {
+        return row;
+    }
+    let mut x: usize = 0;
+    while x < DISPLAY_WIDTH {
+        row[x] = unclaimed_word(entries, x, winobj, winout);
+        x += 1;
+    }
+    row
+}
+
+// The row of a line with windows on. Where the columns occupied so far are all 240, the regions after are left out. The row is
+// written from the last region to the first, so that no column is asked whether it is occupied.
+fn windowed_row(
+    entries: &[u8],
+    obj_window: bool,
+    win0: Columns,
+    win1: Columns,
+    words: RegionWords,
+) -> [u32; 240]
+    requires { ⌜ (length (now entries) ≡ entriesSize) × Spanned win0 × Spanned win1 ⌝ }
+    ensures { λ r. ⌜ r ≡ walkedRow (now (entries .entry)) «obj_window» win0 win1 words ⌝ }
+{
+    let occupied = claim([0u64; 4], win0);
+    if count_marks(occupied) as usize == DISPLAY_WIDTH {
+        let word = words.win0;
+        return [word; 240];
+    }
+    let both = claim(occupied, win1);
+    if count_marks(both) as usize == DISPLAY_WIDTH {
+        let word = words.win1;
+        return paint([word; 240], win0, words.win0);
+    }
+    let rest = unclaimed_row(entries, obj_window, words.winobj, words.winout);
+    let row = paint(rest, win1, words.win1);
+    paint(row, win0, words.win0)
+}
+
+// The row of a line: the word of each column's region.
+pub fn region_row(
+    entries: &[u8],
+    registers: &[u8],
+    reading: Reading,
+    line: usize,
+    words: RegionWords,
+) -> [u32; 240]
+    requires { ⌜ (length (now entries) ≡ entriesSize) × (length (now registers) ≡ registersSize) ⌝ }
+    ensures { λ r. ⌜ r ≡ regionRow reading (now (registers .entry)) (now (entries .entry)) line words ⌝ }
+{
+    let dispcnt = read_dispcnt(registers);
+    if !dispcnt.is_using_windows() {
+        let word = words.winnone;
+        return [word; 240];
+    }
+    let win0 = win0_columns(registers, line);
+    let win1 = win1_columns(registers, reading, line);
+    windowed_row(entries, dispcnt.enable_obj_window, win0, win1, words)
+}

@@ -1,0 +1,51 @@
+//! A changed answer of the library, so that the tests of the command see a difference found, kept and replayed. Only
+//! the hidden option `--flip-for-test` asks for it.
+
+use ashlarkin_oracle::Answer;
+use clap::ValueEnum;
+
+use super::work::{Given, Work};
+
+/// What to change, in the case of this number.
+#[derive(Clone, Copy)]
+pub struct Flip {
+    what: Flipped,
+    index: u64,
+}
+
+#[derive(Clone, Copy, PartialEq, ValueEnum)]
+enum Flipped {
+    Number,
+    Entry,
+    Pixel,
+    Step,
+    Reset,
+}
+
+impl Flip {
+    /// `WHAT@CASE`, as `pixel@37`.
+    pub fn parse(text: &str) -> Result<Flip, String> {
+        let (what, index) = text.split_once('@').ok_or("expected WHAT@CASE")?;
+        Ok(Flip { what: Flipped::from_str(what, false)?, index: index.parse().map_err(|_| "expected a case number")? })
+    }
+
+    /// Changes the last call's answer.
+    pub fn change(self, work: &Work, index: u64, library: &mut [Given]) {
+        let Some(last) = library.last_mut().filter(|_| index == self.index) else {
+            return;
+        };
+        let buffer = match (self.what, work) {
+            (Flipped::Number, Work::Draws(_)) => {
+                last.answer = Answer::Number(8);
+                return;
+            }
+            (Flipped::Entry, Work::Draws(_)) | (Flipped::Reset, Work::Reset(_)) => &mut last.entries,
+            (Flipped::Pixel, Work::Draws(_)) => &mut last.output,
+            (Flipped::Step, Work::Step(..)) => &mut last.references,
+            _ => return,
+        };
+        if let Some(byte) = buffer.last_mut() {
+            *byte ^= 1;
+        }
+    }
+}

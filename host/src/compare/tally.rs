@@ -1,0 +1,87 @@
+//! Counts of a differential run.
+
+use std::time::Duration;
+
+use ashlarkin::Refusal;
+use ashlarkin_oracle::Answer;
+use ashlarkin_oracle::cases::Kind;
+
+use super::work::{Given, Work};
+
+const KINDS: [(Kind, &str); 4] = [
+    (Kind::AcceptedR, "accepted under R"),
+    (Kind::AcceptedH, "accepted under H"),
+    (Kind::Faulty, "faulty"),
+    (Kind::Chain, "chains on one row"),
+];
+
+/// By number 0 to 7; the last place is for anything else.
+type Numbers = [u64; 9];
+
+#[derive(Default)]
+pub struct Tally {
+    /// Draws by kind of case.
+    kinds: [u64; KINDS.len()],
+    draws: Numbers,
+    steps: Numbers,
+    resets: Numbers,
+}
+
+impl Tally {
+    /// Counts what the oracle gave.
+    pub fn count(&mut self, work: &Work, given: &[Given]) {
+        let numbers = match work {
+            Work::Draws(_) => &mut self.draws,
+            Work::Step(..) => &mut self.steps,
+            Work::Reset(_) => &mut self.resets,
+        };
+        for Given { answer, .. } in given {
+            let place = match answer {
+                Answer::Number(number @ 0..=7) => *number as usize,
+                _ => 8,
+            };
+            numbers[place] += 1;
+        }
+        if let Work::Draws(case) = work {
+            let place = KINDS.iter().position(|(kind, _)| *kind == case.kind);
+            self.kinds[place.unwrap_or_default()] += given.len() as u64;
+        }
+    }
+
+    /// The sum of two.
+    pub fn with(mut self, other: &Tally) -> Tally {
+        add(&mut self.kinds, &other.kinds);
+        add(&mut self.draws, &other.draws);
+        add(&mut self.steps, &other.steps);
+        add(&mut self.resets, &other.resets);
+        self
+    }
+
+    /// The counts in words.
+    pub fn text(&self, time: Duration) -> String {
+        let [draws, steps, resets] = [self.draws, self.steps, self.resets].map(|numbers| numbers.iter().sum::<u64>());
+        let all = format!("{draws} draws, {steps} steps, {resets} resets");
+        let mut lines = vec![format!("{all}: no difference between library and oracle")];
+        lines.extend(KINDS.iter().zip(self.kinds).map(|((_, name), draws)| format!("  {draws:>9} draws {name}")));
+        let counts = self.draws.iter().zip(0..).filter(|(count, _)| **count > 0);
+        lines.extend(counts.map(|(count, number)| format!("  {count:>9} draws with {number}: {}", meaning(number))));
+        lines.push(format!("  steps by number: {}; resets: {}", by_number(&self.steps), by_number(&self.resets)));
+        let rate = draws as f64 / time.as_secs_f64();
+        let threads = rayon::current_num_threads();
+        lines.push(format!("  {rate:.0} draws a second on both sides, cases made and compared, {threads} threads"));
+        lines.join("\n")
+    }
+}
+
+fn add<const N: usize>(sum: &mut [u64; N], other: &[u64; N]) {
+    sum.iter_mut().zip(other).for_each(|(sum, other)| *sum += other);
+}
+
+fn meaning(number: u32) -> &'static str {
+    if number == 0 { "drawn" } else { Refusal::of(number).meaning() }
+}
+
+fn by_number(numbers: &Numbers) -> String {
+    let counts = numbers.iter().zip(0..).filter(|(count, _)| **count > 0);
+    counts.map(|(count, number)| format!("{number} {count} times")).collect::<Vec<_>>().join(", ")
+}

@@ -1,0 +1,43 @@
+//! `ashlarkin bench`: every mode and the scene are measured, and the ratio stands last.
+
+use serde_json::Value;
+
+use crate::common::*;
+
+const ROWS: [&str; 7] = ["mode 0", "mode 1", "mode 2", "mode 3", "mode 4", "mode 5", "sample scene"];
+
+#[test]
+fn every_mode_is_measured() {
+    let run = ashlarkin(&["bench", "--seconds", "1"]);
+    assert_eq!((run.status.code(), stderr(&run)), (Some(0), ""));
+    let lines: Vec<&str> = stdout(&run).lines().collect();
+    for (row, line) in ROWS.iter().zip(&lines[1..]) {
+        let values: Vec<f64> = line.strip_prefix(row).unwrap().split_whitespace().map(|v| v.parse().unwrap()).collect();
+        assert!(values.len() == 3 && values.iter().all(|value| *value > 0.0), "{line}");
+        assert!((values[0] / values[1] - values[2]).abs() < 0.02, "{line}");
+    }
+    assert!(lines.last().unwrap().starts_with("ratio: "), "{lines:?}");
+}
+
+#[test]
+fn json_has_the_same() {
+    let run = ashlarkin(&["bench", "--seconds", "1", "--json"]);
+    assert_eq!((run.status.code(), stdout(&run).lines().count()), (Some(0), 1));
+    let object: Value = serde_json::from_str(stdout(&run)).unwrap();
+    let rows = object["lines_per_second"].as_array().unwrap();
+    assert_eq!(rows.iter().map(|row| row["name"].as_str().unwrap()).collect::<Vec<_>>(), ROWS);
+    let ratios: Vec<f64> = rows.iter().map(|row| row["ratio"].as_f64().unwrap()).collect();
+    let lowest = ratios.iter().copied().fold(f64::INFINITY, f64::min);
+    assert_eq!(object["ratio"]["lowest"].as_f64(), Some(lowest));
+    for name in ["read_ms", "draw_ms", "png_ms", "process_ms"] {
+        assert!(object["frame"][name].as_f64().unwrap() > 0.0, "{name}");
+    }
+}
+
+#[test]
+fn bad_usage_is_told_apart() {
+    for options in [&["bench", "--seconds", "0"][..], &["bench", "--seconds", "x"], &["bench", "more"]] {
+        assert_eq!(ashlarkin(options).status.code(), Some(2), "{options:?}");
+    }
+    assert!(stdout(&ashlarkin(&["bench", "--help"])).contains("ashlarkin bench --seconds 60 --json"));
+}

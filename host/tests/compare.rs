@@ -1,0 +1,158 @@
+//! `ashlarkin compare`: a run without differences, and differences made on purpose, found, kept and replayed.
+
+use std::fs;
+use std::path::Path;
+use std::process::{Command, Output};
+
+use crate::common::*;
+
+/// Runs `compare` in a folder, where a difference would be kept.
+fn compare(folder: &Path, options: &[&str]) -> Output {
+    let mut command = Command::new(env!("CARGO_BIN_EXE_ashlarkin"));
+    command.current_dir(folder).arg("compare").args(options).output().unwrap()
+}
+
+/// The counts of a run that found no difference, without its speed.
+fn counts(run: &Output) -> Vec<String> {
+    assert_eq!((run.status.code(), stderr(run)), (Some(0), ""));
+    let lines = stdout(run).lines().map(str::trim).filter(|line| !line.contains("a second"));
+    lines.map(str::to_owned).collect()
+}
+
+fn number(line: &str) -> u64 {
+    line.split_whitespace().next().unwrap().parse().unwrap()
+}
+
+#[test]
+fn library_and_oracle_agree() {
+    let folder = scratch("compare/agree");
+    let lines = counts(&compare(&folder, &["--cases", "2000", "--seed", "1"]));
+    assert_eq!(lines[0], "seed 1, 2000 cases");
+    assert!(
+        lines[1].ends_with(" draws, 2000 steps, 2000 resets: no difference between library and oracle"),
+        "{lines:?}"
+    );
+    let draws = number(&lines[1]);
+    let with =
+        |start: &str| lines.iter().filter(|line| line.contains(start)).map(|line| number(line)).collect::<Vec<_>>();
+    // Every number of document 01 is among them, and every kind of case.
+    assert_eq!(with(" draws with ").len(), 8);
+    assert_eq!(with(" draws with ").iter().sum::<u64>(), draws);
+    let kinds: Vec<u64> = with(" draws ").into_iter().take(4).collect();
+    assert!(kinds.iter().sum::<u64>() == draws && kinds[..3] == [1000, 500, 250] && kinds[3] > 500, "{kinds:?}");
+    assert!(names(&folder).is_empty());
+}
+
+#[test]
+fn a_seed_makes_the_same_cases_on_any_number_of_threads() {
+    let folder = scratch("compare/threads");
+    let run = |threads: &str, options: &[&str]| {
+        let mut command = Command::new(env!("CARGO_BIN_EXE_ashlarkin"));
+        command.current_dir(&folder).env("RAYON_NUM_THREADS", threads).arg("compare").args(options).output().unwrap()
+    };
+    let options = ["--cases", "700", "--seed", "9"];
+    assert_eq!(counts(&run("1", &options)), counts(&run("3", &options)));
+    let flipped = ["--cases", "700", "--seed", "9", "--flip-for-test", "number@641"];
+    assert_eq!(stderr(&run("1", &flipped)), stderr(&run("3", &flipped)));
+    // A fresh seed is another one each time, and is printed.
+    let seed = || counts(&run("2", &["--cases", "1"])).swap_remove(0);
+    assert_ne!(seed(), seed());
+}
+
+#[test]
+fn a_reading_alone_is_compared() {
+    let folder = scratch("compare/reading");
+    let all = |reading: &str| counts(&compare(&folder, &["--cases", "800", "--seed", "3", "--reading", reading]));
+    let [r, h, both] = ["R", "h", "both"].map(all);
+    assert!(r[2] == "400 draws accepted under R" && r[3] == "0 draws accepted under H", "{r:?}");
+    assert!(h[2] == "0 draws accepted under R" && h[3] == "200 draws accepted under H", "{h:?}");
+    assert!(both[2] == r[2] && both[3] == h[3], "{both:?}");
+    // Refusal 5 is R's alone.
+    assert!(r.iter().any(|line| line.contains("with 5:")) && !h.iter().any(|line| line.contains("with 5:")));
+}
+
+/// A changed answer of the library is found, wherever it lies, kept whole, and seen again in what was kept.
+#[test]
+fn a_difference_is_found_kept_and_replayed() {
+    let folder = scratch("compare/difference");
+    for (flip, call, words) in [
+        ("number@37", "draw 0", "answer 8 and 0"),
+        ("entry@0", "draw 0", "entry byte 959 (column 239)"),
+        ("pixel@299", "draw 0", "pixel 239 0x01"),
+        // Draw after draw of a chain, up to the last.
+        ("pixel@7", "draw ", "pixel 239 0x01"),
+        ("step@150", "step 0", "reference byte 15"),
+        ("reset@200", "reset 0", "entry byte 199 (column 49) 0x5b and 0x5a"),
+    ] {
+        let case = flip.split('@').nth(1).unwrap();
+        let run = compare(&folder, &["--cases", "300", "--seed", "1", "--keep", "kept.txt", "--flip-for-test", flip]);
+        let place = format!("seed 1, case {case}, {call}");
+        let text = stderr(&run);
+        assert_eq!(
+            (run.status.code(), stdout(&run), text.lines().count()),
+            (Some(1), "seed 1, 300 cases\n", 1),
+            "{flip}"
+        );
+        assert!(text.starts_with(&place) && text.contains(words), "{flip}: {text}");
+        assert!(text.contains("ashlarkin compare --replay kept.txt"), "{text}");
+
+        let again = compare(&folder, &["--replay", "kept.txt", "--flip-for-test", flip]);
+        let found = stderr(&again);
+        assert!(again.status.code() == Some(1) && found.starts_with(&format!("kept.txt: {place}")), "{flip}: {found}");
+        assert!(found.contains(words) && stdout(&again).contains("another answer or other bytes"), "{flip}: {found}");
+
+        // It was the flip alone.
+        let same = compare(&folder, &["--replay", "kept.txt"]);
+        assert_eq!((same.status.code(), stderr(&same)), (Some(0), ""));
+        assert!(stdout(&same).ends_with(&format!("case {case}: no difference\n")), "{}", stdout(&same));
+    }
+    // The last case of all, and one past it.
+    let last = compare(&folder, &["--cases", "130", "--seed", "1", "--flip-for-test", "pixel@129"]);
+    assert_eq!(last.status.code(), Some(1));
+    assert_eq!(names(&folder), ["ashlarkin-difference.txt", "kept.txt"].map(|name| folder.join(name)));
+    counts(&compare(&folder, &["--cases", "129", "--seed", "1", "--flip-for-test", "pixel@129"]));
+}
+
+#[test]
+fn a_kept_file_may_be_damaged() {
+    let folder = scratch("compare/kept");
+    compare(&folder, &["--cases", "1", "--seed", "1", "--keep", "kept.txt", "--flip-for-test", "pixel@0"]);
+    let whole = fs::read_to_string(folder.join("kept.txt")).unwrap();
+    let replay = |bytes: &[u8], words: &[&str]| {
+        fs::write(folder.join("damaged.txt"), bytes).unwrap();
+        let run = compare(&folder, &["--replay", "damaged.txt"]);
+        check_refused(&run, Path::new("damaged.txt"), words);
+    };
+    replay(b"", &["starts with ''", "expected 'ashlarkin difference 1'"]);
+    replay(&fs::read(sample("scene.ss0")).unwrap(), &["can't be read", "expected a difference"]);
+    replay(&whole.as_bytes()[..whole.len() / 2], &["expected"]);
+    replay(whole.replacen("draws 1", "draws 2", 1).as_bytes(), &["ends after line"]);
+    replay(whole.replacen("vram ", "vram g", 1).as_bytes(), &["vram isn't hex"]);
+    let missing = compare(&folder, &["--replay", "missing.txt"]);
+    check_refused(&missing, Path::new("missing.txt"), &["No such file"]);
+    let nowhere = compare(&folder, &["--cases", "1", "--keep", "missing/kept.txt", "--flip-for-test", "pixel@0"]);
+    let text = stderr(&nowhere);
+    assert!(nowhere.status.code() == Some(1) && text.lines().count() == 1, "{text}");
+    assert!(text.starts_with("missing/kept.txt: can't be written: ") && text.contains("give --keep"), "{text}");
+}
+
+#[test]
+fn bad_usage_is_told_apart() {
+    let folder = scratch("compare/usage");
+    for options in [
+        &["--cases", "0"][..],
+        &["--cases", "x"],
+        &["--seed", "-1"],
+        &["--reading", "X"],
+        &["--replay", "kept.txt", "--cases", "5"],
+        &["--replay", "kept.txt", "--seed", "5"],
+        &["--flip-for-test", "pixel"],
+        &["--flip-for-test", "nothing@1"],
+    ] {
+        let run = compare(&folder, options);
+        assert!(run.status.code() == Some(2) && run.stdout.is_empty(), "{options:?}");
+    }
+    assert!(names(&folder).is_empty());
+    let help = compare(&folder, &["--help"]);
+    assert!(stdout(&help).contains("ashlarkin compare --replay") && !stdout(&help).contains("flip"));
+}

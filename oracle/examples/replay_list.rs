@@ -1,0 +1,268 @@
+//! Makes the list of calls and answers that the program of crates/replay runs through the proved routines. The answers
+//! are the oracle's; the calls are the generator's under a fixed seed, so the list comes out the same each time.
+//!
+//!     cargo run -q --release -p ashlarkin-oracle --example replay_list > crates/replay/stdin
+//!
+//! The form of the list is described in crates/replay/src/main.rt.
+
+use std::io::{Write, stdout};
+use std::sync::Arc;
+
+use ashlarkin_oracle::cases::{Alone, Case, Cases, Draw, Kind, reset_row, step};
+use ashlarkin_oracle::*;
+
+const SEED: u64 = 1;
+
+/// The generator's cases that are taken whole, and those of which the faulty ones are.
+const CASES: u64 = 128;
+const FAULTY_CASES: u64 = 512;
+const ALONE: u64 = 6;
+const STEPS: u64 = 64;
+
+/// Video memories: those of the cases taken whole, and the sample's. Each is longer than a draw takes, so that too much
+/// of it can be lent.
+const IMAGES: usize = 5;
+const IMAGE_LEN: usize = VRAM_LEN + 64;
+
+/// Room for references of another length.
+const REFERENCES_ROOM: usize = 32;
+
+const SAMPLE: &[u8] = include_bytes!("../../samples/scene.ss0");
+
+/// What a record calls.
+#[derive(Clone, Copy)]
+enum Call {
+    Draw,
+    Step,
+    Reset,
+}
+
+/// What a record is for.
+#[derive(Clone, Copy)]
+enum Group {
+    R,
+    H,
+    Faulty,
+    Chain,
+    Alone,
+    Sample,
+    Lengths,
+    Steps,
+    Resets,
+}
+
+/// The records so far, and the buffers as the last one leaves them.
+struct List {
+    oracle: Oracle,
+    images: Vec<Arc<[u8]>>,
+    records: u32,
+    bytes: Vec<u8>,
+    palette: Vec<u8>,
+    oam: Vec<u8>,
+    registers: Vec<u8>,
+    entries: Vec<u8>,
+    output: Vec<u8>,
+}
+
+/// Document 01's number; a panic of the Rust has no place in the list.
+fn number(answer: Answer) -> u32 {
+    match answer {
+        Answer::Number(number) => number,
+        Answer::Panicked(finding) => panic!("the Rust panicked: {finding}"),
+    }
+}
+
+/// Puts bytes at a buffer's start. Whether they weren't there.
+fn replace(buffer: &mut [u8], bytes: &[u8]) -> bool {
+    let place = &mut buffer[..bytes.len()];
+    let changed = place != bytes;
+    place.copy_from_slice(bytes);
+    changed
+}
+
+impl List {
+    fn new(images: Vec<Arc<[u8]>>) -> List {
+        let room = |len| vec![0; 2 * len];
+        List {
+            oracle: Oracle::new(),
+            images,
+            records: 0,
+            bytes: vec![],
+            palette: room(PALETTE_LEN),
+            oam: room(OAM_LEN),
+            registers: room(REGISTERS_LEN),
+            entries: room(ENTRIES_LEN),
+            output: room(OUTPUT_LEN),
+        }
+    }
+
+    /// A record: its head, and those of the buffers that follow it, each with whether it does.
+    fn record(&mut self, call: Call, group: Group, number: u32, rest: [u32; 13], buffers: &[(bool, &[u8])]) {
+        let given: u32 = (0..).zip(buffers).map(|(bit, (follows, _))| u32::from(*follows) << bit).sum();
+        for word in [call as u32, group as u32, number, given].into_iter().chain(rest) {
+            self.bytes.extend(word.to_le_bytes());
+        }
+        for (_, buffer) in buffers.iter().filter(|(follows, _)| *follows) {
+            self.bytes.extend(*buffer);
+        }
+        self.records += 1;
+    }
+
+    /// A draw on these entries, with so much of the output lent.
+    fn draw(&mut self, group: Group, draw: &Draw, entries: &[u8], output: usize) {
+        let image = self.images.iter().position(|image| Arc::ptr_eq(image, &draw.vram)).expect("one of the images");
+        let (mut after, mut pixels) = (entries.to_vec(), self.output[..output].to_vec());
+        let number = number(self.oracle.draw(&draw.input(), &mut after, &mut pixels));
+        let buffers: [(bool, &[u8]); 6] = [
+            (replace(&mut self.palette, &draw.palette), &draw.palette),
+            (replace(&mut self.oam, &draw.oam), &draw.oam),
+            (replace(&mut self.registers, &draw.registers), &draw.registers),
+            (replace(&mut self.entries, entries), entries),
+            (replace(&mut self.entries, &after), &after),
+            (replace(&mut self.output, &pixels), &pixels),
+        ];
+        let [x2, y2, x3, y3] = draw.references.map(|reference| reference as u32);
+        let lent = [draw.vram_len, draw.palette.len(), draw.oam.len(), draw.registers.len(), entries.len(), output];
+        let [vram, palette, oam, registers, entries, output] = lent.map(|len| len as u32);
+        let (reading, line, image) = (draw.reading, draw.line, image as u32);
+        let rest = [reading, line, x2, y2, x3, y3, image, vram, palette, oam, registers, entries, output];
+        self.record(Call::Draw, group, number, rest, &buffers);
+    }
+
+    /// A reset with so much of the row lent.
+    fn reset(&mut self, len: usize) {
+        let mut after = self.entries[..len].to_vec();
+        let number = number(self.oracle.reset(&mut after));
+        let changed = replace(&mut self.entries, &after);
+        let rest = [0, 0, 0, 0, 0, 0, 0, 0, 0, 0, 0, len as u32, 0];
+        let none: (bool, &[u8]) = (false, &[]);
+        self.record(Call::Reset, Group::Resets, number, rest, &[none, none, none, none, (changed, &after)]);
+    }
+
+    /// A step; the references before and after follow, always with room for too many.
+    fn step(&mut self, steps: [i16; 4], mut references: Vec<u8>) {
+        let len = references.len();
+        let mut before = references.clone();
+        let number = number(self.oracle.step(steps, &mut references));
+        before.resize(REFERENCES_ROOM, 0);
+        references.resize(REFERENCES_ROOM, 0);
+        let [pb2, pd2, pb3, pd3] = steps.map(|step| i32::from(step) as u32);
+        let rest = [0, 0, pb2, pd2, pb3, pd3, 0, 0, 0, 0, 0, len as u32, 0];
+        self.record(Call::Step, Group::Steps, number, rest, &[(true, &before), (true, &references)]);
+    }
+
+    /// The draws of a case one after another on its row. A row that starts as a reset one is reset.
+    fn case(&mut self, group: Group, case: &Case) {
+        if case.entries == reset_row() && self.entries[..ENTRIES_LEN] != case.entries {
+            self.reset(ENTRIES_LEN);
+        }
+        let mut entries = case.entries.clone();
+        for draw in &case.draws {
+            self.draw(group, draw, &entries, case.output.len());
+            entries.copy_from_slice(&self.entries[..case.entries.len()]);
+        }
+    }
+
+    /// An accepted draw on a reset row, with each buffer in turn empty, a byte short and a byte long.
+    fn lengths(&mut self, draw: &Draw) {
+        self.reset(ENTRIES_LEN);
+        self.draw(Group::Lengths, draw, &reset_row(), OUTPUT_LEN);
+        let row = self.entries.clone();
+        let cut = |buffer: &[u8], len| [buffer, &[0]].concat()[..len].to_vec();
+        let lens = |len: usize| [0, len - 1, len + 1];
+        for len in lens(VRAM_LEN) {
+            self.draw(Group::Lengths, &Draw { vram_len: len, ..draw.clone() }, &row[..ENTRIES_LEN], OUTPUT_LEN);
+        }
+        for len in lens(PALETTE_LEN) {
+            let draw = Draw { palette: cut(&draw.palette, len), ..draw.clone() };
+            self.draw(Group::Lengths, &draw, &row[..ENTRIES_LEN], OUTPUT_LEN);
+        }
+        for len in lens(OAM_LEN) {
+            let draw = Draw { oam: cut(&draw.oam, len), ..draw.clone() };
+            self.draw(Group::Lengths, &draw, &row[..ENTRIES_LEN], OUTPUT_LEN);
+        }
+        for len in lens(REGISTERS_LEN) {
+            let draw = Draw { registers: cut(&draw.registers, len), ..draw.clone() };
+            self.draw(Group::Lengths, &draw, &row[..ENTRIES_LEN], OUTPUT_LEN);
+        }
+        for len in lens(ENTRIES_LEN) {
+            self.draw(Group::Lengths, draw, &row[..len], OUTPUT_LEN);
+        }
+        for len in lens(OUTPUT_LEN) {
+            self.draw(Group::Lengths, draw, &row[..ENTRIES_LEN], len);
+        }
+        for len in [0, 1, ENTRIES_LEN - 1, ENTRIES_LEN, ENTRIES_LEN + 1, 2 * ENTRIES_LEN] {
+            self.reset(len);
+        }
+    }
+}
+
+/// A line of the sample, a save state of mGBA, by turns under R and H.
+fn sample(vram: &Arc<[u8]>, line: u32) -> Draw {
+    let part = |at: usize, len: usize| SAMPLE[at..at + len].to_vec();
+    Draw {
+        reading: line / 4 % 2,
+        line,
+        references: [0; 4],
+        vram: vram.clone(),
+        vram_len: VRAM_LEN,
+        palette: part(0x800, PALETTE_LEN),
+        oam: part(0xc00, OAM_LEN),
+        registers: part(0x400, REGISTERS_LEN),
+    }
+}
+
+/// The video memories of the cases taken whole, and the sample's.
+fn images(cases: &mut Cases) -> Vec<Arc<[u8]>> {
+    let mut images: Vec<Arc<[u8]>> = vec![];
+    for draw in (0..CASES).flat_map(|index| cases.case(index).draws) {
+        if !images.iter().any(|image| **image == *draw.vram) {
+            images.push(draw.vram);
+        }
+    }
+    let mut sample = SAMPLE[0x1000..0x19000].to_vec();
+    sample.resize(IMAGE_LEN, 0);
+    images.push(sample.into());
+    images
+}
+
+fn main() {
+    let cases = &mut Cases::new(SEED);
+    let images = images(cases);
+    assert_eq!(images.iter().map(|image| image.len()).collect::<Vec<_>>(), [IMAGE_LEN; IMAGES]);
+    let list = &mut List::new(images.clone());
+    let known = |mut draw: Draw, index: u64| {
+        let same = images.iter().find(|image| ***image == *draw.vram);
+        draw.vram = same.unwrap_or(&images[index as usize / 8 % IMAGES]).clone();
+        draw
+    };
+    for index in (0..CASES).chain((CASES..FAULTY_CASES).filter(|index| Kind::of(*index) == Kind::Faulty)) {
+        let mut case = cases.case(index);
+        case.draws = case.draws.into_iter().map(|draw| known(draw, index)).collect();
+        let group = match case.kind {
+            Kind::AcceptedR => Group::R,
+            Kind::AcceptedH => Group::H,
+            Kind::Faulty => Group::Faulty,
+            Kind::Chain => Group::Chain,
+        };
+        list.case(group, &case);
+    }
+    for index in 0..ALONE {
+        for kind in Alone::ALL {
+            list.reset(ENTRIES_LEN);
+            list.draw(Group::Alone, &known(cases.alone(index, kind).0, index), &reset_row(), OUTPUT_LEN);
+        }
+    }
+    for line in (0..160).step_by(4) {
+        list.reset(ENTRIES_LEN);
+        list.draw(Group::Sample, &sample(&images[IMAGES - 1], line), &reset_row(), OUTPUT_LEN);
+    }
+    list.lengths(&sample(&images[IMAGES - 1], 80));
+    for (steps, references) in (0..STEPS).map(|index| step(SEED, index)) {
+        list.step(steps, references);
+    }
+    let mut out = stdout().lock();
+    images.iter().for_each(|image| out.write_all(image).expect("standard output"));
+    out.write_all(&list.records.to_le_bytes()).expect("standard output");
+    out.write_all(&list.bytes).expect("standard output");
+}
