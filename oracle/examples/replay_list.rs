@@ -13,9 +13,9 @@ use ashlarkin_oracle::*;
 
 const SEED: u64 = 1;
 
-/// The generator's cases that are taken whole, and those of which the faulty ones are.
+/// How many of the generator's cases are taken, all kinds; and of the faulty ones after them, how many of each number.
 const CASES: u64 = 128;
-const FAULTY_CASES: u64 = 512;
+const FAULTY: u32 = 8;
 const ALONE: u64 = 6;
 const STEPS: u64 = 64;
 
@@ -236,9 +236,12 @@ fn main() {
         draw.vram = same.unwrap_or(&images[index as usize / 8 % IMAGES]).clone();
         draw
     };
-    for index in (0..CASES).chain((CASES..FAULTY_CASES).filter(|index| Kind::of(*index) == Kind::Faulty)) {
+    let mut case_of = |index| {
         let mut case = cases.case(index);
         case.draws = case.draws.into_iter().map(|draw| known(draw, index)).collect();
+        case
+    };
+    for case in (0..CASES).map(&mut case_of) {
         let group = match case.kind {
             Kind::AcceptedR => Group::R,
             Kind::AcceptedH => Group::H,
@@ -246,6 +249,14 @@ fn main() {
             Kind::Chain => Group::Chain,
         };
         list.case(group, &case);
+    }
+    let mut left = [FAULTY; 8];
+    for case in (CASES..).filter(|index| Kind::of(*index) == Kind::Faulty).map(&mut case_of) {
+        let left = &mut left[judge_draw(&case.draws[0].input(), &case.entries, &case.output) as usize];
+        if *left > 0 {
+            *left -= 1;
+            list.case(Group::Faulty, &case);
+        }
     }
     for index in 0..ALONE {
         for kind in Alone::ALL {

@@ -22,12 +22,11 @@ use Rattle.regs.specs.Registers.{bldcnt, bgcnt, dispcnt}
 use Rattle.regs.specs.Background.{priority}
 use Rattle.regs.specs.Display.{enableObj}
 use Rattle.regs.specs.Windows.{permits}
-use Rattle.regs.specs.Layers.{backgroundLayer, layerBit, targets}
+use Rattle.regs.specs.Layers.{backgroundLayer, targets}
 use Rattle.regs.specs.Blend.{target1, target2, blendMode}
 use Rattle.regs.specs.declared.BlendMode.{BlendMode}
 use Rattle.regs.specs.declared.BlendMode.the-variants.{BldNone, BldAlpha, BldWhite, BldBlack}
 use Rattle.regs.specs.declared.reading.Reading.{Reading}
-use Rattle.regs.specs.declared.layer.RenderLayerKind.{RenderLayerKind}
 use Rattle.regs.specs.declared.layer.RenderLayerKind.the-variants.{Objects}
 use Rattle.regs.proofs.Laws.{layerBit-background}
 use Rattle.obj.specs.Entry.{entryCells, semiMark}

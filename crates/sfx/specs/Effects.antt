@@ -1,7 +1,7 @@
 -- Effects, and the colour that each makes of two layers (01, "Windows and blending", "Two readings"; GBATEK, "LCD I/O Color
 -- Special Effects"). Assumes nothing.
 use Prim.Native.Nat.{ℕ, _-_}
-use mathlib.Core.Bool.{Bool, true, false, cond, _&&_}
+use mathlib.Core.Bool.{Bool, cond, _&&_}
 use mathlib.Core.List.{List}
 use lib.Dec.{eqb}
 use Rattle.rgb15.specs.Colour.{blendWith, black, white}

@@ -7,7 +7,7 @@ use mathlib.Core.List.{List}
 use lib.Dec.{eqb, leb, ltb}
 use lib.ListN.{getD}
 use Rattle.bits.specs.Bits.{bit}
-use Rattle.rgb15.specs.Colour.{white, black, isTransparent, toRgb24, blendWith}
+use Rattle.rgb15.specs.Colour.{white, black, isTransparent, blendWith}
 use Rattle.memory.specs.Palette.{backdrop}
 use Rattle.regs.specs.Registers.{dispcnt, bgcnt, bldcnt, bldalpha, bldy}
 use Rattle.regs.specs.Display.{enableObj}
@@ -32,14 +32,14 @@ use Rattle.sfx.specs.declared.layer.LineLayers.{LineLayers}
 abbrev pub bitOf : Bool → ℕ
 bitOf t = cond t 1 0
 
--- ---- layers
-
 -- An effect's number: 0 none, 1 a blend, 2 white, 3 black.
 abbrev pub modeNumber : BlendMode → ℕ
 modeNumber BldNone = 0
 modeNumber BldAlpha = 1
 modeNumber BldWhite = 2
 modeNumber BldBlack = 3
+
+-- ---- layers
 
 -- All of a layer but its colour: bit 0 first target, bit 1 second target, bit 2 semi-transparent object, then the priority.
 unfoldable pub layerTag : ℕ → ℕ → RenderLayerKind → ℕ → ℕ

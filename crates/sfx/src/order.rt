@@ -1,6 +1,6 @@
 // The order of backgrounds (gpu/sfx.rs, the sort of `finalize_scanline`).
 ghost use mathlib.Core.Path.{_≡_};
-ghost use Prim.Native.Nat.{_≤_, _<_, min, max};
+ghost use Prim.Native.Nat.{_<_, min, max};
 ghost use lib.ListN.{length};
 ghost use Rattle.memory.specs.Sizes.{registersSize};
 ghost use Rattle.regs.specs.Registers.{dispcnt, bgcnt};
