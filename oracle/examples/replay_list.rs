@@ -16,10 +16,11 @@ const SEED: u64 = 1;
 /// How many of the generator's cases are taken, all kinds; and of the faulty ones after them, how many of each number.
 const CASES: u64 = 128;
 const FAULTY: u32 = 8;
+/// Lines of each kind of background alone.
 const ALONE: u64 = 6;
 const STEPS: u64 = 64;
 
-/// Video memories: those of the cases taken whole, and the sample's. Each is longer than a draw takes, so that too much
+/// Video memories: those of the first cases, and the sample's. Each is longer than a draw takes, so that too much
 /// of it can be lent.
 const IMAGES: usize = 5;
 const IMAGE_LEN: usize = VRAM_LEN + 64;
@@ -55,11 +56,8 @@ enum Group {
 struct List {
     oracle: Oracle,
     images: Vec<Arc<[u8]>>,
-    records: u32,
     bytes: Vec<u8>,
-    palette: Vec<u8>,
-    oam: Vec<u8>,
-    registers: Vec<u8>,
+    memory: Vec<u8>,
     entries: Vec<u8>,
     output: Vec<u8>,
 }
@@ -82,17 +80,13 @@ fn replace(buffer: &mut [u8], bytes: &[u8]) -> bool {
 
 impl List {
     fn new(images: Vec<Arc<[u8]>>) -> List {
-        let room = |len| vec![0; 2 * len];
         List {
             oracle: Oracle::new(),
+            bytes: images.concat(),
             images,
-            records: 0,
-            bytes: vec![],
-            palette: room(PALETTE_LEN),
-            oam: room(OAM_LEN),
-            registers: room(REGISTERS_LEN),
-            entries: room(ENTRIES_LEN),
-            output: room(OUTPUT_LEN),
+            memory: vec![0; 2 * (PALETTE_LEN + OAM_LEN + REGISTERS_LEN)],
+            entries: vec![0; 2 * ENTRIES_LEN],
+            output: vec![0; 2 * OUTPUT_LEN],
         }
     }
 
@@ -105,7 +99,6 @@ impl List {
         for (_, buffer) in buffers.iter().filter(|(follows, _)| *follows) {
             self.bytes.extend(*buffer);
         }
-        self.records += 1;
     }
 
     /// A draw on these entries, with so much of the output lent.
@@ -113,10 +106,9 @@ impl List {
         let image = self.images.iter().position(|image| Arc::ptr_eq(image, &draw.vram)).expect("one of the images");
         let (mut after, mut pixels) = (entries.to_vec(), self.output[..output].to_vec());
         let number = number(self.oracle.draw(&draw.input(), &mut after, &mut pixels));
-        let buffers: [(bool, &[u8]); 6] = [
-            (replace(&mut self.palette, &draw.palette), &draw.palette),
-            (replace(&mut self.oam, &draw.oam), &draw.oam),
-            (replace(&mut self.registers, &draw.registers), &draw.registers),
+        let memory = [&draw.palette[..], &draw.oam, &draw.registers].concat();
+        let buffers: [(bool, &[u8]); 4] = [
+            (replace(&mut self.memory, &memory), &memory),
             (replace(&mut self.entries, entries), entries),
             (replace(&mut self.entries, &after), &after),
             (replace(&mut self.output, &pixels), &pixels),
@@ -124,8 +116,8 @@ impl List {
         let [x2, y2, x3, y3] = draw.references.map(|reference| reference as u32);
         let lent = [draw.vram_len, draw.palette.len(), draw.oam.len(), draw.registers.len(), entries.len(), output];
         let [vram, palette, oam, registers, entries, output] = lent.map(|len| len as u32);
-        let (reading, line, image) = (draw.reading, draw.line, image as u32);
-        let rest = [reading, line, x2, y2, x3, y3, image, vram, palette, oam, registers, entries, output];
+        let (reading, line, start) = (draw.reading, draw.line, (image * IMAGE_LEN) as u32);
+        let rest = [reading, line, x2, y2, x3, y3, start, vram, palette, oam, registers, entries, output];
         self.record(Call::Draw, group, number, rest, &buffers);
     }
 
@@ -136,7 +128,7 @@ impl List {
         let changed = replace(&mut self.entries, &after);
         let rest = [0, 0, 0, 0, 0, 0, 0, 0, 0, 0, 0, len as u32, 0];
         let none: (bool, &[u8]) = (false, &[]);
-        self.record(Call::Reset, Group::Resets, number, rest, &[none, none, none, none, (changed, &after)]);
+        self.record(Call::Reset, Group::Resets, number, rest, &[none, none, (changed, &after)]);
     }
 
     /// A step; the references before and after follow, always with room for too many.
@@ -212,7 +204,7 @@ fn sample(vram: &Arc<[u8]>, line: u32) -> Draw {
     }
 }
 
-/// The video memories of the cases taken whole, and the sample's.
+/// The video memories of the first cases, and the sample's.
 fn images(cases: &mut Cases) -> Vec<Arc<[u8]>> {
     let mut images: Vec<Arc<[u8]>> = vec![];
     for draw in (0..CASES).flat_map(|index| cases.case(index).draws) {
@@ -226,22 +218,23 @@ fn images(cases: &mut Cases) -> Vec<Arc<[u8]>> {
     images
 }
 
-fn main() {
-    let cases = &mut Cases::new(SEED);
-    let images = images(cases);
-    assert_eq!(images.iter().map(|image| image.len()).collect::<Vec<_>>(), [IMAGE_LEN; IMAGES]);
-    let list = &mut List::new(images.clone());
-    let known = |mut draw: Draw, index: u64| {
-        let same = images.iter().find(|image| ***image == *draw.vram);
-        draw.vram = same.unwrap_or(&images[index as usize / 8 % IMAGES]).clone();
-        draw
-    };
-    let mut case_of = |index| {
-        let mut case = cases.case(index);
-        case.draws = case.draws.into_iter().map(|draw| known(draw, index)).collect();
-        case
-    };
-    for case in (0..CASES).map(&mut case_of) {
+/// A draw over one of the list's video memories: its own, or another where the list hasn't that.
+fn over_images(list: &List, mut draw: Draw, index: u64) -> Draw {
+    let own = list.images.iter().find(|image| ***image == *draw.vram);
+    draw.vram = own.unwrap_or(&list.images[index as usize / 8 % IMAGES]).clone();
+    draw
+}
+
+fn case_of(list: &List, cases: &mut Cases, index: u64) -> Case {
+    let mut case = cases.case(index);
+    case.draws = case.draws.into_iter().map(|draw| over_images(list, draw, index)).collect();
+    case
+}
+
+/// The first cases, whatever their kind.
+fn add_cases(list: &mut List, cases: &mut Cases) {
+    for index in 0..CASES {
+        let case = case_of(list, cases, index);
         let group = match case.kind {
             Kind::AcceptedR => Group::R,
             Kind::AcceptedH => Group::H,
@@ -250,30 +243,42 @@ fn main() {
         };
         list.case(group, &case);
     }
+}
+
+/// Faulty cases from there on, until each number has been given as often as is wanted.
+fn add_faulty(list: &mut List, cases: &mut Cases) {
     let mut left = [FAULTY; 8];
-    for case in (CASES..).filter(|index| Kind::of(*index) == Kind::Faulty).map(&mut case_of) {
+    let mut faulty = (CASES..).filter(|index| Kind::of(*index) == Kind::Faulty);
+    while left != [0; 8] {
+        let case = case_of(list, cases, faulty.next().expect("no end of cases"));
         let left = &mut left[judge_draw(&case.draws[0].input(), &case.entries, &case.output) as usize];
         if *left > 0 {
             *left -= 1;
             list.case(Group::Faulty, &case);
         }
     }
-    for index in 0..ALONE {
-        for kind in Alone::ALL {
-            list.reset(ENTRIES_LEN);
-            list.draw(Group::Alone, &known(cases.alone(index, kind).0, index), &reset_row(), OUTPUT_LEN);
-        }
+}
+
+fn main() {
+    let cases = &mut Cases::new(SEED);
+    let images = images(cases);
+    assert_eq!(images.iter().map(|image| image.len()).collect::<Vec<_>>(), [IMAGE_LEN; IMAGES]);
+    let list = &mut List::new(images);
+    add_cases(list, cases);
+    add_faulty(list, cases);
+    for (index, kind) in (0..ALONE).flat_map(|index| Alone::ALL.map(|kind| (index, kind))) {
+        list.reset(ENTRIES_LEN);
+        let draw = over_images(list, cases.alone(index, kind).0, index);
+        list.draw(Group::Alone, &draw, &reset_row(), OUTPUT_LEN);
     }
+    let scene = list.images[IMAGES - 1].clone();
     for line in (0..160).step_by(4) {
         list.reset(ENTRIES_LEN);
-        list.draw(Group::Sample, &sample(&images[IMAGES - 1], line), &reset_row(), OUTPUT_LEN);
+        list.draw(Group::Sample, &sample(&scene, line), &reset_row(), OUTPUT_LEN);
     }
-    list.lengths(&sample(&images[IMAGES - 1], 80));
+    list.lengths(&sample(&scene, 80));
     for (steps, references) in (0..STEPS).map(|index| step(SEED, index)) {
         list.step(steps, references);
     }
-    let mut out = stdout().lock();
-    images.iter().for_each(|image| out.write_all(image).expect("standard output"));
-    out.write_all(&list.records.to_le_bytes()).expect("standard output");
-    out.write_all(&list.bytes).expect("standard output");
+    stdout().write_all(&list.bytes).expect("standard output");
 }

@@ -11,13 +11,15 @@ use Rattle.rgb15.specs.Colour.{rgb}
 use Rattle.rgb15.specs.declared.Rgb15.{Rgb15}
 use Rattle.rows.specs.Tab.{tab}
 use Rattle.rows.proofs.Tab.{getD-of-tab, tab-cong}
-use Rattle.memory.specs.Tiles.{tileSize, paletteBank}
+use Rattle.memory.specs.Palette.{paletteColor}
+use Rattle.memory.specs.Tiles.{tileSize, paletteBank, tilePixel}
 use Rattle.memory.specs.declared.PixelFormat.{PixelFormat}
 use Rattle.memory.specs.declared.PixelFormat.the-variants.{BPP4, BPP8}
 use Rattle.regs.specs.Background.{BgControlOf, RegularSize, charBlock, screenBlock, regularWidth, regularHeight, tileFormat, size}
 use Rattle.regs.specs.declared.BgControl.{BgControl}
 use Rattle.regs.specs.declared.BgSize.{BgSize}
 use Rattle.regs.proofs.Laws.{regularWidth-cases}
+use Rattle.background.specs.Affine.{affineTile, affinePixel}
 use Rattle.background.specs.Regular.{tileIndex, xFlip, yFlip, entryBank, flipped, tileColor, entryColor}
 use Rattle.background.specs.Regular.{regularX, regularY, mapEntry, regularPixel, regularColor}
 
@@ -35,6 +37,22 @@ tileRow-bound side y side≤ y< =
     let down : y / 8 ≤ 127 = omega arith in
     mul-le-mul across down
 
+-- A side of a regular background is 256 or 512.
+pub regularWidth-side : (n : ℕ) {side : ℕ} → side ≡ regularWidth n → (side % 256 ≡ 0) × (256 ≤ side) × (side ≤ 512)
+regularWidth-side n e = (omega arith, omega arith, omega arith)
+
+pub regularHeight-side : (n : ℕ) {side : ℕ} → side ≡ regularHeight n → (side % 256 ≡ 0) × (256 ≤ side) × (side ≤ 512)
+regularHeight-side n e = (omega arith, omega arith, omega arith)
+
+-- How far the bases of a control's tiles and map lie.
+pub charBlock-bound : {control : ℕ} {b : BgControl} {tiles : ℕ} → BgControlOf control b → tiles ≡ charBlock (b .«character_base_block»)
+    → tiles ≤ 0xc000
+charBlock-bound control-is e = omega (arith, control-is .character-is)
+
+pub screenBlock-bound : {control : ℕ} {b : BgControl} {screen : ℕ} → BgControlOf control b → screen ≡ screenBlock (b .«screen_base_block»)
+    → screen ≤ 0xf800
+screenBlock-bound control-is e = omega (arith, control-is .screen-is)
+
 -- The tiles before the one of an entry.
 tileSize-bound : (format : PixelFormat) → tileSize format ≤ 64
 tileSize-bound BPP4 = omega arith
@@ -48,6 +66,11 @@ tiles-bound format {index} {size} index≤ e =
 pub flipped-bound : (flip : Bool) (at : ℕ) → at < 8 → flipped flip at < 8
 flipped-bound true at h = omega arith
 flipped-bound false at h = omega arith
+
+-- The colour of a pixel of a tile, as it is made: what is read of the tile, and of the palette.
+pub tileColor-is : (vram palette : List ℕ) (addr x y : ℕ) (format : PixelFormat) (bank : ℕ) {index c : ℕ} →
+    index ≡ tilePixel vram addr x y format → c ≡ paletteColor palette 0 index bank → c ≡ tileColor vram palette addr x y format bank
+tileColor-is vram palette addr x y format bank index-is c-is = c-is ∙ ap (λ (n : ℕ). paletteColor palette 0 n bank) index-is
 
 -- The eight colours that an entry shows, as they are made: what is read of the entry, a row of its tile, and the row flipped.
 pub entryRow-is : (vram palette : List ℕ) (tiles : ℕ) (format : PixelFormat) (entry y : ℕ)
@@ -110,9 +133,25 @@ regularTile-is vram palette control hofs vofs line t {b} {s} {tiles} {screen} {x
     ap rgb (cc (mapEntry-tile vram screen (s .width) x y r whole r<))
 
 -- The offset's part below a tile may as well be added to the column.
-pub regularColor-offset : (vram palette : List ℕ) (control hofs vofs column line : ℕ)
+regularColor-offset : (vram palette : List ℕ) (control hofs vofs column line : ℕ)
     → regularColor vram palette control (hofs / 8 * 8) vofs (column + hofs % 8) line ≡ regularColor vram palette control hofs vofs column line
 unfolding regularColor
 regularColor-offset vram palette control hofs vofs column line =
     let e : column + hofs % 8 + hofs / 8 * 8 ≡ column + hofs = omega arith in
     rw e
+
+-- So a column of the line is one of the 31 whole tiles that it goes through.
+pub regularColumn-is : (vram palette : List ℕ) (control hofs vofs column line : ℕ) (d : Rgb15) {tiles : List Rgb15} →
+    tiles ≡ tab (λ x. rgb (regularColor vram palette control (hofs / 8 * 8) vofs x line)) 248 → column < 240 →
+    getD tiles (column + hofs % 8) d ≡ rgb (regularColor vram palette control hofs vofs column line)
+regularColumn-is vram palette control hofs vofs column line d tiles-is column< =
+    getD-of-tab _ 248 (column + hofs % 8) d tiles-is (omega arith)
+    ∙ ap rgb (regularColor-offset vram palette control hofs vofs column line)
+
+-- The colour at a pixel of an affine background, as it is made: what is read of the map, and its tile.
+pub affinePixel-is : (vram palette : List ℕ) (screen tiles side x y : ℕ) {tile c : ℕ} →
+    tile ≡ affineTile vram screen side x y → c ≡ tileColor vram palette (tiles + 0x40 * tile) (x % 8) (y % 8) BPP8 0 →
+    c ≡ affinePixel vram palette screen tiles side x y
+unfolding affinePixel
+affinePixel-is vram palette screen tiles side x y tile-is c-is =
+    c-is ∙ ap (λ (n : ℕ). tileColor vram palette (tiles + 0x40 * n) (x % 8) (y % 8) BPP8 0) tile-is

@@ -2,15 +2,17 @@
 use mathlib.Core.Path.{_≡_, refl, sym, ap, _∙_}
 use mathlib.Core.Bool.{Bool, true, false, not, cond}
 use lib.Dec.{eqb}
-use Prim.Native.Nat.{ℕ, zero, suc, _-_, _*_, _^_, _≤_, _<_}
+use Prim.Native.Nat.{ℕ, zero, suc, _+_, _-_, _*_, _^_, _≤_, _<_}
 use mathlib.Core.List.{List}
 use native.Mathlib.Nat.{mod-eq-of-lt, mul-le-mul}
 use native.Mathlib.Omega.{arith}
 use lib.IntN.{ℤ, pos, subℕ, _+ℤ_, _*ℤ_}
-use borrow.Author.Tests.{not-true, not-false}
+use borrow.Author.Tests.{not-true, not-false, eq-eqb, ne-eqb}
 use Rattle.rgb15.specs.Colour.{transparent}
 use Rattle.signed.specs.Signed.{signed16, down256, wrapped}
 use Rattle.signed.proofs.Difference.{up, subℕ-view}
+use Rattle.memory.specs.Memory.{byte, half}
+use Rattle.memory.specs.Palette.{paletteColor}
 use Rattle.regs.specs.Background.{BgControlOf, charBlock, screenBlock}
 use Rattle.regs.specs.declared.BgControl.{BgControl}
 use Rattle.background.specs.Point.{transformBgPoint, shows, pointColor, coordinate, Side}
@@ -56,6 +58,18 @@ sides false = (omega arith, (omega arith, refl), omega arith, (omega arith, refl
 pub bitmapViewPort-sides : {mode : ℕ} {wraparound : Bool} {v : ViewPort} → BitmapViewPort mode wraparound v →
     (v .w ≤ 240) × Side (v .w) × (v .h ≤ 160) × Side (v .h)
 bitmapViewPort-sides {mode} e = rw (e .w-is, e .h-is) (sides (eqb mode 5))
+
+-- ---- a bitmap's pixel, as it is made: what is read of it
+
+module _ (vram palette : List ℕ) (mode start w x y : ℕ) where
+  pub bitmapPixel-byte : {index c : ℕ} → mode ≡ 4 → index ≡ byte vram (start + (x + w * y)) → c ≡ paletteColor palette 0 index 0 →
+      c ≡ bitmapPixel vram palette mode start w x y
+  unfolding bitmapPixel
+  bitmapPixel-byte four index-is c-is = rw (eq-eqb mode 4 four) (c-is ∙ ap (λ (n : ℕ). paletteColor palette 0 n 0) index-is)
+
+  pub bitmapPixel-half : {c : ℕ} → (mode ≡ 4 → ⊥) → c ≡ half vram (start + 2 * (x + w * y)) → c ≡ bitmapPixel vram palette mode start w x y
+  unfolding bitmapPixel
+  bitmapPixel-half other c-is = rw (ne-eqb mode 4 other) c-is
 
 -- ---- a column's colour, as it is made
 

@@ -4,7 +4,7 @@ use Prim.Native.Nat.{ℕ, zero, suc, _+_, _≤_, _<_}
 use native.Mathlib.Nat.{le-refl, eq-zero-or-pos}
 use native.Mathlib.Omega.{arith}
 use mathlib.Core.Logic.{_⊎_, inl, inr, ⊎-elim}
-use mathlib.Core.Path.{_≡_, refl}
+use mathlib.Core.Path.{_≡_, refl, ap₂}
 use mathlib.Core.Bool.{Bool, true, false, _||_, _&&_, or-false, and-false, and-eq-true-iff}
 use lib.Dec.{leb, ltb}
 use lib.ListN.{getD}
@@ -147,3 +147,8 @@ pub counted-small : (reading : Reading) (weight : ℕ) → weight ≤ 16 → cou
 unfolding counted
 counted-small R weight small = refl
 counted-small H weight small = omega arith
+
+-- What a window holds, by its two edges as they are read.
+pub inside-is : (screen near far at : ℕ) {n f : ℕ} → n ≡ near → f ≡ farEdge screen near far
+    → (leb n at && ltb at f) ≡ inside screen near far at
+inside-is screen near far at n-is f-is = ap₂ (λ n f. leb n at && ltb at f) n-is f-is

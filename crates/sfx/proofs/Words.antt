@@ -11,7 +11,7 @@ use mir.Syntax.{w64}
 use mir.Val.{Fits}
 use borrow.Author.Tests.{lt-ltb, le-ltb}
 use Rattle.bits.specs.Bits.{bit}
-use Rattle.rgb15.specs.Colour.{isTransparent, toRgb24, blendWith}
+use Rattle.rgb15.specs.Colour.{white, black, isTransparent, toRgb24, blendWith}
 use Rattle.rows.specs.Cells.{cellAt}
 use Rattle.memory.specs.Palette.{backdrop}
 use Rattle.regs.specs.Registers.{bgcnt, bldcnt, bldalpha, bldy}
@@ -135,6 +135,12 @@ pub regionWord-is : (at : List ℕ) (flags : ℕ) (objects : Bool) {a b c d e f 
 unfolding regionWord
 regionWord-is at flags objects a-is b-is c-is d-is s-is e-is t-is f-is =
     rw (a-is, b-is, c-is, d-is, e-is, s-is, f-is, t-is)
+
+pub otherColor-is : (bottom effect : ℕ) {dark r : ℕ}
+    → dark ≡ cond (eqb effect 3) black bottom
+    → r ≡ cond (eqb effect 2) white dark
+    → r ≡ otherColor bottom effect
+otherColor-is bottom effect dark-is r-is = r-is ∙ ap (cond (eqb effect 2) white) dark-is
 
 pub pairColor-is : (w : Weights) (effect : ℕ) (p : LayerPair) {other mine theirs color : ℕ}
     → other ≡ otherColor (p .bottom % 0x8000) effect

@@ -6,6 +6,17 @@ use Rattle.gpu.proofs.Lines.{entries-on, entries-off}
 use Rattle.gpu.proofs.update_objs.Statement.{statement}
 use Rattle.gpu.proofs.update_objs.Tie as tie
 
+render-objs-requires : tie.Need-render-objs-requires
+render-objs-requires c κs =
+    let pre = c .before .before .before .before .before .before .before .before .before .before .pre in (
+      pre .lengths .entries-is,
+      pre .lengths .vram-is,
+      pre .lengths .palette-is,
+      pre .lengths .oam-is,
+      pre .lengths .registers-is,
+      pre .line<,
+    )
+
 returns : tie.Need-returns
 returns c =
     let ran = c .before .before in
@@ -21,9 +32,9 @@ pub update-objs-spec : {M : Type 1} → statement M
 update-objs-spec =
     tie.close
     (tie.spec
-    (search needs)
-    (search needs)
-    (search needs)
+    (λ c κs. c .before .before .before .before .before .before .pre .lengths .registers-is)
+    (λ c κs. c .before .before .before .before .before .before .before .before .before .pre .reading<)
+    render-objs-requires
     (search needs)
     returns
     returns-2)

@@ -2,8 +2,7 @@
 -- Assumes nothing.
 use native.Mathlib.Omega.{arith}
 use borrow.Author.Needs.{needs}
-use Rattle.background.specs.Affine.{affinePixel}
-use Rattle.background.proofs.Maps.{tileRow-bound}
+use Rattle.background.proofs.Maps.{tileRow-bound, affinePixel-is}
 use Rattle.background.proofs.text.aff_bg_pixel.Statement.{statement}
 use Rattle.background.proofs.text.aff_bg_pixel.Tie as tie
 
@@ -17,8 +16,7 @@ read-8-requires : tie.Need-read-8-requires
 read-8-requires c κs = let pre = c .before .before .pre in omega (arith, tileRow-bound _ _ (pre .3) (pre .5))
 
 returns : tie.Need-returns
-unfolding affinePixel
-returns c = cc
+returns c = affinePixel-is _ _ _ _ _ _ _ (c .before .read-8 .ensures .0) (c .tile-color .ensures)
 
 pub aff-bg-pixel-spec : {M : Type 1} → statement M
 aff-bg-pixel-spec =

@@ -1,14 +1,16 @@
 -- background::text::render_aff_bg meets its contract: a turn sets one column, at the point that its lifted numbers give.
 -- Assumes nothing.
 use Prim.Native.Nat.{_-_, _^_}
-use mathlib.Core.Path.{sym, _∙_}
+use mathlib.Core.Path.{sym, ap, _∙_}
 use mir.Facts.{toZ-ofZ}
 use borrow.Author.Needs.{needs}
 use lib.IntN.{subℕ}
-use Rattle.rgb15.specs.Colour.{rgb}
+use lib.ListN.{length-replicate}
+use Rattle.rgb15.specs.Colour.{rgb, transparent}
+use Rattle.signed.specs.Signed.{inRange}
 use Rattle.rows.proofs.Tabbed.{Tabbed, tabbed-none, tabbed-all}
 use Rattle.background.specs.Affine.{affineColor}
-use Rattle.background.proofs.Lines.{colored-more}
+use Rattle.background.proofs.Lines.{colored-more, column-fits, bytes-fit, next-fits, fewer-left}
 use Rattle.background.proofs.Points.{affineColor-is}
 use Rattle.background.proofs.text.render_aff_bg.Statement.{statement}
 use Rattle.background.proofs.text.render_aff_bg.Tie as tie
@@ -22,13 +24,27 @@ abbrev μ-loop : tie.MeasureT-loop
     240 - screen-x
 
 lift-i32-requires : tie.Need-lift-i32-requires Inv-loop μ-loop
-lift-i32-requires c κs = search needs
+lift-i32-requires c κs =
+    let start = c .before .before .before .before .before .before in
+    ap inRange (toZ-ofZ (start .fits .ref-x)) ∙ start .pre .1
 
 lift-i32-requires-2 : tie.Need-lift-i32-requires-2 Inv-loop μ-loop
-lift-i32-requires-2 c κs = search needs
+lift-i32-requires-2 c κs =
+    let start = c .before .before .before .before .before .before .before in
+    ap inRange (toZ-ofZ (start .fits .ref-y)) ∙ start .pre .2
 
 loop-holds : tie.Need-loop-holds Inv-loop μ-loop
-loop-holds c = search (needs, tabbed-none)
+loop-holds c = tabbed-none (length-replicate 240 (rgb transparent))
+
+transform-bg-point-requires : tie.Need-transform-bg-point-requires Inv-loop μ-loop
+transform-bg-point-requires c κs =
+    let dx = c .before .before .before in
+    (dx .before .before .lift-i32 .ensures .1, dx .lift-half .ensures .1, c .loop-test .taken)
+
+transform-bg-point-requires-2 : tie.Need-transform-bg-point-requires-2 Inv-loop μ-loop
+transform-bg-point-requires-2 c κs =
+    let dy = c .before .before .before in
+    (dy .before .before .lift-i322 .ensures .1, dy .lift-half2 .ensures .1, c .before .loop-test .taken)
 
 aff-bg-color-requires : tie.Need-aff-bg-color-requires Inv-loop μ-loop
 aff-bg-color-requires c κs = search needs
@@ -90,14 +106,14 @@ render-aff-bg-spec =
     (search needs)
     (search needs)
     loop-holds
-    (search needs)
-    (search needs)
-    (search needs)
-    (search needs)
+    (λ c. column-fits (c .loop-test .taken))
+    transform-bg-point-requires
+    (λ c. column-fits (c .before .loop-test .taken))
+    transform-bg-point-requires-2
     aff-bg-color-requires
-    (search needs)
-    (search needs)
-    (search needs)
-    (search needs)
+    (λ c. bytes-fit (c .before .before .before .loop-test .taken))
+    (λ c. c .before .before .before .loop-test .taken)
+    (λ c. next-fits (c .before .before .before .loop-test .taken))
+    (λ c. fewer-left (c .before .before .before .loop-test .taken))
     loop-again
     returns)

@@ -1,14 +1,16 @@
 -- background::text::render_reg_bg meets its contract: column k is column k + hofs % 8 of the line with its offset rounded down to a tile.
 -- Assumes nothing.
-use Prim.Native.Nat.{_-_}
-use mathlib.Core.Path.{ap, _∙_}
+use Prim.Native.Nat.{ℕ, _+_, _-_, _*_, _%_, _<_}
 use native.Mathlib.Omega.{arith}
+use mir.Syntax.{w64}
+use mir.Val.{Fits}
+use lib.ListN.{length-replicate}
 use borrow.Author.Needs.{needs}
-use Rattle.rgb15.specs.Colour.{rgb}
-use Rattle.rows.proofs.Tab.{getD-of-tab}
+use Rattle.rgb15.specs.Colour.{rgb, transparent}
 use Rattle.rows.proofs.Tabbed.{Tabbed, tabbed-none, tabbed-more, tabbed-all}
 use Rattle.background.specs.Regular.{regularColor}
-use Rattle.background.proofs.Maps.{regularColor-offset}
+use Rattle.background.proofs.Lines.{bytes-fit, next-fits, fewer-left}
+use Rattle.background.proofs.Maps.{regularColumn-is}
 use Rattle.background.proofs.text.render_reg_bg.Statement.{statement}
 use Rattle.background.proofs.text.render_reg_bg.Tie as tie
 
@@ -19,17 +21,27 @@ Inv-loop vram palette control hofs vofs line tiles start-tile-x bg-line₀ scree
 abbrev μ-loop : tie.MeasureT-loop
 μ-loop vram palette control hofs vofs line tiles start-tile-x bg-line₀ screen-x₀ bg-line screen-x = 240 - screen-x
 
+-- The column of the 31 tiles that a column of the screen shows.
+tile-column : {k : ℕ} (hofs : ℕ) → k < 240 → k + hofs % 8 < 248
+tile-column hofs k< = omega arith
+
+tile-column-fits : {k : ℕ} (hofs : ℕ) → k < 240 → Fits w64 (k + hofs % 8)
+tile-column-fits hofs k< = omega arith
+
+tile-bytes-fit : {k : ℕ} (hofs : ℕ) → k < 240 → Fits w64 ((k + hofs % 8) * 2)
+tile-bytes-fit hofs k< = omega arith
+
 loop-holds : tie.Need-loop-holds Inv-loop μ-loop
-loop-holds c = search (needs, tabbed-none)
+loop-holds c = tabbed-none (length-replicate 240 (rgb transparent))
 
 loop-again : tie.Need-loop-again Inv-loop μ-loop
 loop-again c =
     let loop = c .before .before in
-    tabbed-more (loop .loop .inv) (search needs)
-    (getD-of-tab _ 248 _ _ (loop .before .reg-bg-tiles .ensures) (omega arith) ∙ ap rgb (regularColor-offset _ _ _ _ _ _ _))
+    let taken = c .before .loop-test .taken in
+    tabbed-more (loop .loop .inv) taken (regularColumn-is _ _ _ _ _ _ _ _ (loop .before .reg-bg-tiles .ensures) taken)
 
 returns : tie.Need-returns Inv-loop μ-loop
-returns c = search (needs, tabbed-all)
+returns c = tabbed-all (c .before .loop .inv) (c .loop-test .left)
 
 pub render-reg-bg-spec : {M : Type 1} → statement M
 render-reg-bg-spec =
@@ -39,12 +51,12 @@ render-reg-bg-spec =
     μ-loop
     (search needs)
     loop-holds
-    (search needs)
-    (search needs)
-    (search needs)
-    (search needs)
-    (search needs)
-    (search needs)
-    (search needs)
+    (λ c. tile-column-fits _ (c .loop-test .taken))
+    (λ c. tile-bytes-fit _ (c .loop-test .taken))
+    (λ c. tile-column _ (c .loop-test .taken))
+    (λ c. bytes-fit (c .before .loop-test .taken))
+    (λ c. c .before .loop-test .taken)
+    (λ c. next-fits (c .before .loop-test .taken))
+    (λ c. fewer-left (c .before .loop-test .taken))
     loop-again
     returns)

@@ -1,0 +1,236 @@
+// The examples of document 01 without a P, and one for each of its errors that look right, by the exported routines.
+// Each line says what a draw returned and its pixels 0 and 1; the file stdout has what document 01 expects. The backdrop
+// is green, 0x00f800, and the output's bytes start as 0xaa, so a refused draw shows 0xaaaaaaaa.
+use ashlarkin::ashlarkin_draw;
+use ashlarkin::ashlarkin_reset;
+use ashlarkin::ashlarkin_step;
+
+const VIDEO_RAM_SIZE: usize = 0x20000;
+
+const PALETTE_RAM_SIZE: usize = 0x400;
+
+const OAM_SIZE: usize = 0x400;
+
+const REGISTERS_SIZE: usize = 0x56;
+
+const ROW_SIZE: usize = 960;
+
+// The readings.
+const R: u32 = 0;
+
+const H: u32 = 1;
+
+// The lowest reference number that is too large, 2^28.
+const LIMIT: i32 = 0x1000_0000;
+
+// What a draw returned, and its pixels 0 and 1.
+struct Drawn {
+    number: u32,
+    first: u32,
+    second: u32,
+}
+
+// Green as backdrop; the sprites' colours 1 and 2 are red and blue.
+fn colours() -> [u8; PALETTE_RAM_SIZE] {
+    let mut palette = [0u8; PALETTE_RAM_SIZE];
+    palette[0x000] = 0xe0;
+    palette[0x001] = 0x03;
+    palette[0x202] = 0x1f;
+    palette[0x205] = 0x7c;
+    palette
+}
+
+// Mode 3 with background 2 on and the unit matrix, and the high byte of DISPCNT.
+fn bitmap_registers(high: u8) -> [u8; REGISTERS_SIZE] {
+    let mut registers = [0u8; REGISTERS_SIZE];
+    registers[0x00] = 3;
+    registers[0x01] = high;
+    registers[0x21] = 1;
+    registers[0x27] = 1;
+    registers
+}
+
+fn reset_row() -> [u8; ROW_SIZE] {
+    let mut entries = [0u8; ROW_SIZE];
+    ashlarkin_reset(&mut entries);
+    entries
+}
+
+// A draw on the row; all references but x2 are 0.
+fn draw(
+    reading: u32,
+    line: u32,
+    x2: i32,
+    vram: &[u8],
+    oam: &[u8],
+    registers: &[u8],
+    entries: &mut [u8],
+) -> Drawn {
+    let palette = colours();
+    let mut output = [0xaau8; ROW_SIZE];
+    let number = ashlarkin_draw(
+        reading,
+        line,
+        x2,
+        0,
+        0,
+        0,
+        vram,
+        &palette,
+        oam,
+        registers,
+        entries,
+        &mut output,
+    );
+    Drawn {
+        number,
+        first: rows::word_at(&output, 0),
+        second: rows::word_at(&output, 1),
+    }
+}
+
+// A draw of the backdrop alone, with the effect black.
+fn draw_backdrop(reading: u32, line: u32, x2: i32, dispcnt: u8, bldy: u8) -> Drawn {
+    let vram = [0u8; VIDEO_RAM_SIZE];
+    let oam = [0u8; OAM_SIZE];
+    let mut registers = [0u8; REGISTERS_SIZE];
+    registers[0x00] = dispcnt;
+    registers[0x50] = 0xe0;
+    registers[0x54] = bldy;
+    let mut entries = reset_row();
+    draw(reading, line, x2, &vram, &oam, &registers, &mut entries)
+}
+
+fn print_pixel(pixel: u32) {
+    io::write_all(1, b" 0x");
+    io::print_hex(1, pixel as u64, 6);
+}
+
+fn print_number(name: &[u8], number: u32) {
+    io::write_all(1, name);
+    io::write_all(1, b": returns ");
+    io::print_decimal(1, number as u64);
+}
+
+fn print(name: &[u8], drawn: Drawn) {
+    print_number(name, drawn.number);
+    io::write_all(1, b", pixels");
+    print_pixel(drawn.first);
+    print_pixel(drawn.second);
+    io::write_all(1, b"\n");
+}
+
+fn lines() {
+    print(b"line 159", draw_backdrop(R, 159, 0, 0, 0));
+    print(b"line 160", draw_backdrop(R, 160, 0, 0, 0));
+}
+
+fn modes() {
+    print(b"mode 7", draw_backdrop(R, 0, 0, 0x07, 0));
+    print(b"mode 7, forced blank", draw_backdrop(R, 0, 0, 0x87, 0));
+}
+
+fn weights() {
+    print(b"BLDY 16, reading R", draw_backdrop(R, 0, 0, 0, 16));
+    print(b"BLDY 17, reading R", draw_backdrop(R, 0, 0, 0, 17));
+    print(b"BLDY 17, reading H", draw_backdrop(H, 0, 0, 0, 17));
+}
+
+// The step of 2^28 - 1 by pb2.
+fn print_step(name: &[u8], pb2: i16) {
+    let mut references = [0u8; 16];
+    references[0] = 0xff;
+    references[1] = 0xff;
+    references[2] = 0xff;
+    references[3] = 0x0f;
+    print_number(name, ashlarkin_step(pb2, 0, 0, 0, &mut references));
+    io::write_all(1, b"\n");
+}
+
+fn references() {
+    print(b"reference 2^28 - 1", draw_backdrop(R, 0, LIMIT - 1, 0, 0));
+    print(b"reference 2^28", draw_backdrop(R, 0, LIMIT, 0, 0));
+    print_step(b"reference 2^28 - 1 stepped by 0", 0);
+    print_step(b"reference 2^28 - 1 stepped by 1", 1);
+}
+
+// Sprite 0 shows tile 1, whose first dot is red, and the 127 others tile 0, whose first dot is blue; all stand at column 0
+// with priority 0. A tie that went to the later sprite would print 0x0000f8.
+fn tie() {
+    let mut vram = [0u8; VIDEO_RAM_SIZE];
+    vram[0x10000] = 0x02;
+    vram[0x10020] = 0x01;
+    let mut oam = [0u8; OAM_SIZE];
+    oam[4] = 1;
+    let mut registers = [0u8; REGISTERS_SIZE];
+    registers[0x01] = 0x10;
+    let mut entries = reset_row();
+    print(
+        b"tie of sprites",
+        draw(R, 0, 0, &vram, &oam, &registers, &mut entries),
+    );
+}
+
+// The words 0x8000 and 0x8001 in mode 3. If bit 15 were masked before the test, the first would print 0x000000.
+fn transparent_word() {
+    let mut vram = [0u8; VIDEO_RAM_SIZE];
+    vram[1] = 0x80;
+    vram[2] = 0x01;
+    vram[3] = 0x80;
+    let oam = [0u8; OAM_SIZE];
+    let registers = bitmap_registers(0x04);
+    let mut entries = reset_row();
+    print(
+        b"words 0x8000 and 0x8001",
+        draw(R, 0, 0, &vram, &oam, &registers, &mut entries),
+    );
+}
+
+// A window sprite marks column 0, where the object window permits background 2, whose first two words are red; outside
+// permits nothing. The second draw has sprites off: without the first one's mark it would print 0x00f800 twice.
+fn window_marks() {
+    let mut vram = [0u8; VIDEO_RAM_SIZE];
+    vram[0x00000] = 0x1f;
+    vram[0x00002] = 0x1f;
+    vram[0x14000] = 0x01;
+    let mut oam = [0u8; OAM_SIZE];
+    oam[1] = 0x08;
+    oam[5] = 0x02;
+    let mut registers = bitmap_registers(0x94);
+    registers[0x4b] = 0x04;
+    let mut entries = reset_row();
+    print(
+        b"window marks, sprites on",
+        draw(R, 0, 0, &vram, &oam, &registers, &mut entries),
+    );
+    registers[0x01] = 0x84;
+    print(
+        b"window marks, sprites off",
+        draw(R, 0, 0, &vram, &oam, &registers, &mut entries),
+    );
+}
+
+// Column 0 lies at -1/256, left of the bitmap, and column 1 at 255/256, in its first dot, which is red. Rounded toward
+// zero both would lie in that dot.
+fn negative_point() {
+    let mut vram = [0u8; VIDEO_RAM_SIZE];
+    vram[0] = 0x1f;
+    let oam = [0u8; OAM_SIZE];
+    let registers = bitmap_registers(0x04);
+    let mut entries = reset_row();
+    print(
+        b"point -1/256",
+        draw(R, 0, -1, &vram, &oam, &registers, &mut entries),
+    );
+}
+
+fn main() {
+    lines();
+    modes();
+    weights();
+    references();
+    tie();
+    transparent_word();
+    window_marks();
+    negative_point();
+}

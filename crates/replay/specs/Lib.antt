@@ -1,0 +1,2 @@
+-- What the program replay compares.
+pub mod Same

@@ -1,0 +1,106 @@
+// Runs a fixed list of the oracle's answers through the exported routines, and compares number, entries and output byte
+// for byte. The list is standard input; oracle/examples/replay_list.rs makes it. It has five video memories of 131,136
+// bytes, 64 more than a draw takes so that too much can be lent, and then records up to its end. A record is a head of 17
+// words and the buffers that follow it. A word is four bytes, the low one first. The words of a head:
+//   0         the call: 0 is a draw, 1 a step, 2 a reset
+//   1         its group, in the order in which tally.rt prints them
+//   2         the number that the oracle returned
+//   3         which buffers follow, a bit for each
+//   4, 5      reading and line
+//   6 to 9    the reference numbers; of a step pb2, pd2, pb3, pd3
+//   10        where in the list its video memory starts
+//   11 to 16  how much is lent of video memory, palette, OAM, registers, entries (of a step references) and output
+// The buffers, each as long as it is lent: palette, OAM and registers, which follow together; entries before the call;
+// entries after it; output after it. One that doesn't follow is as the record before left it, and after the call as before
+// it. A step is followed by 32 bytes that hold its references before, and 32 after.
+mod calls;
+mod compare;
+mod list;
+mod tally;
+
+use calls::replay_draw;
+use calls::replay_reset;
+use calls::replay_step;
+use compare::Found;
+use list::read;
+use list::word;
+use tally::COUNTS;
+
+// No list has as many records; a loop has to end.
+const MOST_RECORDS: u32 = 1_000_000;
+
+// The call of a record.
+fn replay(
+    head: &[u8; list::HEAD_SIZE],
+    images: &[u8; list::IMAGES_SIZE],
+    memory: &mut [u8; list::MEMORY_ROOM],
+    entries: &mut [u8; list::ROW_ROOM],
+    output: &mut [u8; list::ROW_ROOM],
+) -> Found {
+    let call = word(head, list::CALL);
+    if call == list::DRAW {
+        replay_draw(head, images, memory, entries, output)
+    } else if call == list::STEP {
+        replay_step(head)
+    } else {
+        replay_reset(head, entries, output)
+    }
+}
+
+fn print_place(k: u32, what: &[u8], place: u64) {
+    io::write_all(1, b"call ");
+    io::print_decimal(1, k as u64);
+    io::write_all(1, what);
+    io::print_decimal(1, place);
+    io::write_all(1, b"\n");
+}
+
+// Says where call k differs.
+fn print_difference(k: u32, found: Found) {
+    match found {
+        Found::Same => {}
+        Found::Number(number) => print_place(k, b": not the number ", number as u64),
+        Found::Entries(place) => print_place(k, b": entries differ from byte ", place as u64),
+        Found::Output(place) => print_place(k, b": output differs from byte ", place as u64),
+        Found::Cut => print_place(k, b": the list ends in record ", k as u64),
+    }
+}
+
+// The records replayed and counted, up to the first that differs. Whether none does.
+fn replay_all(images: &[u8; list::IMAGES_SIZE], counts: &mut [u64; COUNTS]) -> bool {
+    let mut head = [0u8; list::HEAD_SIZE];
+    let mut memory = [0u8; list::MEMORY_ROOM];
+    let mut entries = [0u8; list::ROW_ROOM];
+    let mut output = [0u8; list::ROW_ROOM];
+    let mut k: u32 = 0;
+    while k < MOST_RECORDS {
+        if !list::read_head(&mut head) {
+            return true;
+        }
+        let found = replay(&head, images, &mut memory, &mut entries, &mut output);
+        if !found.is_same() {
+            print_difference(k, found);
+            return false;
+        }
+        tally::count_record(counts, &head, &memory);
+        k += 1;
+    }
+    true
+}
+
+// The list replayed; images is room for its video memories.
+fn replay_list(images: &mut [u8; list::IMAGES_SIZE]) {
+    let mut counts = [0u64; COUNTS];
+    if !read(images) {
+        io::write_all(1, b"the list ends in its video memories\n");
+        return;
+    }
+    if replay_all(images, &mut counts) {
+        tally::print(&counts);
+    }
+}
+
+fn main() {
+    let mut images = [0u8; list::IMAGES_SIZE];
+    replay_list(&mut images);
+}
