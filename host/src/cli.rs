@@ -153,7 +153,8 @@ struct BatchArgs {
 struct CompareArgs {
     /// How many cases to compare
     ///
-    /// Each is one to six draws, a line-end step and a reset of a row. Example: --cases 1000000
+    /// Each is one to six draws, a line-end step and a reset of a row; draws and step are done over records, too.
+    /// Example: --cases 1000000
     #[arg(long, value_name = "N", default_value = "10000", value_parser = value_parser!(u64).range(1..))]
     cases: u64,
 

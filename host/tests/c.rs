@@ -90,8 +90,15 @@ fn refusals_reach_c() {
 fn the_header_is_cpp_too() {
     let folder = scratch("c/cpp");
     let (source, program) = (folder.join("cpp.cpp"), folder.join("cpp"));
-    let text = "#include \"ashlarkin.h\"\nint main() { return int(ashlarkin_reset(nullptr, 0)); }\n";
+    let text = "#include \"ashlarkin.h\"\n\
+        static BgAffine bg2, bg3;\n\
+        static ObjBufferEntry row[1] = {{false, false, 0x8000, 4}};\n\
+        int main() {\n\
+            uint32_t drawn = ashlarkin_draw_records(0, 0, 0, 0, 0, 0, nullptr, 0, nullptr, 0, nullptr, 0, nullptr, 0,\n\
+                row, 1, nullptr, 0);\n\
+            return int(ashlarkin_reset(nullptr, 0) * 10 + drawn + ashlarkin_step_records(&bg2, &bg3));\n\
+        }\n";
     fs::write(&source, text).unwrap();
     compile("g++", "-std=c++11", &source, &program);
-    assert_eq!(run(&program, &[]).status.code(), Some(2));
+    assert_eq!(run(&program, &[]).status.code(), Some(22));
 }

@@ -40,6 +40,11 @@ fn library_and_oracle_agree() {
     assert_eq!(with(" draws with ").iter().sum::<u64>(), draws);
     let kinds: Vec<u64> = with(" draws ").into_iter().take(4).collect();
     assert!(kinds.iter().sum::<u64>() == draws && kinds[..3] == [1000, 500, 250] && kinds[3] > 500, "{kinds:?}");
+    // All of them on records, too, and each faulty case beside one with a fault of records alone.
+    assert!(lines.contains(&format!("{} draws on records, 2000 steps on records", draws + 250)), "{lines:?}");
+    let by_number = lines.iter().find(|line| line.starts_with("draws on records by number: 0 ")).unwrap();
+    assert!((1..=7).all(|number| by_number.contains(&format!(", {number} "))), "{by_number}");
+    assert!(by_number.contains("; steps on records: 0 ") && by_number.ends_with(" times"), "{by_number}");
     assert!(names(&folder).is_empty());
 }
 
@@ -83,6 +88,9 @@ fn a_difference_is_found_kept_and_replayed() {
         ("pixel@7", "draw ", "pixel 239 0x01"),
         ("step@150", "step 0", "reference byte 15"),
         ("reset@200", "reset 0", "entry byte 199 (column 49) 0x5b and 0x5a"),
+        ("record@37", "draw on records 0", "record 239 ObjBufferEntry {"),
+        ("record@7", "draw on records ", "record 239 ObjBufferEntry {"),
+        ("background@150", "step on records 0", "background 3 BgAffine {"),
     ] {
         let case = flip.split('@').nth(1).unwrap();
         let run = compare(&folder, &["--cases", "300", "--seed", "1", "--keep", "kept.txt", "--flip-for-test", flip]);

@@ -3,6 +3,10 @@ ghost use Rattle.gpu.specs.Judge.{callOf};
 ghost use Rattle.gpu.specs.Draw.{Draws};
 ghost use Rattle.gpu.specs.Reset.{Resets};
 ghost use Rattle.gpu.specs.Step.{StepsTo};
+ghost use Rattle.records.specs.Draw.{DrawsRecords};
+ghost use Rattle.records.specs.Step.{StepsRecords};
+use records::BgAffine;
+use records::ObjBufferEntry;
 
 // A line drawn: 0, or the number of the refusal, which changes nothing lent.
 #[no_mangle]
@@ -63,4 +67,63 @@ pub extern "C" fn ashlarkin_step(
         ⌜ StepsTo (record { pb2 = pb2; pd2 = pd2; pb3 = pb3; pd3 = pd3 }) (now (references .entry)) n (now (references .exit)) ⌝ }
 {
     gpu::step(pb2, pd2, pb3, pd3, references)
+}
+
+// Both backgrounds stepped at a line's end, each in place: 0, or 6 with both as they were.
+#[no_mangle]
+pub extern "C" fn ashlarkin_step_records(bg2: &mut BgAffine, bg3: &mut BgAffine) -> u32
+    ensures { λ n. ⌜ StepsRecords (now (bg2 .entry)) (now (bg3 .entry)) n (now (bg2 .exit)) (now (bg3 .exit)) ⌝ }
+{
+    let stepped = records::step_pair(*bg2, *bg3);
+    *bg2 = stepped.bg2;
+    *bg3 = stepped.bg3;
+    stepped.number
+}
+
+// A line drawn over a row of 240 records, with the byte form's answers; the row is written only where the line is drawn.
+#[no_mangle]
+pub extern "C" fn ashlarkin_draw_records(
+    reading: u32,
+    line: u32,
+    x2: i32,
+    y2: i32,
+    x3: i32,
+    y3: i32,
+    vram: &[u8],
+    palette: &[u8],
+    oam: &[u8],
+    registers: &[u8],
+    entries: &mut [ObjBufferEntry],
+    output: &mut [u8],
+) -> u32
+    ensures { λ n.
+        ⌜ DrawsRecords
+        (callOf reading line x2 y2 x3 y3
+        (now (vram .entry)) (now (palette .entry)) (now (oam .entry)) (now (registers .entry)))
+        (now (entries .entry)) (now (output .entry)) n (now (entries .exit)) (now (output .exit)) ⌝ }
+{
+    let refusal = records::judge_row(reading, entries.len());
+    if refusal != 0 {
+        return refusal;
+    }
+    let row = records::load_row(entries);
+    let drawn = records::draw_row(
+        row,
+        reading,
+        line,
+        x2,
+        y2,
+        x3,
+        y3,
+        vram,
+        palette,
+        oam,
+        registers,
+        output,
+    );
+    if !drawn.writes {
+        return drawn.number;
+    }
+    records::store_row(entries, drawn.row);
+    drawn.number
 }

@@ -1,5 +1,5 @@
 //! Ashlarkin draws lines of the Game Boy Advance's picture from captured video memory. The drawing is the proved
-//! library `libashlarkin.a`; this crate makes its three functions safe to call.
+//! library `libashlarkin.a`; this crate makes its five functions safe to call.
 //!
 //! A draw takes memory and registers as bytes and a row of 240 object entries, and writes 240 pixels. Whatever it is
 //! given, it draws the whole line, or gives a [`Refusal`] and changes no byte.
@@ -34,13 +34,17 @@
 //! # Ok::<(), Refusal>(())
 //! ```
 //!
+//! [`draw_records`] and [`step_records`] do the same over the emulator's records, [`ObjBufferEntry`] and [`BgAffine`].
+//!
 //! Nothing is kept between calls, so that threads may draw at the same time.
 
 #![warn(missing_docs)]
 
 mod ffi;
+mod records;
 mod refusal;
 
+pub use records::{BgAffine, ObjBufferEntry, draw_records, step_records};
 pub use refusal::Refusal;
 
 /// The pixels of a line.

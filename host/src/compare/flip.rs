@@ -20,6 +20,8 @@ enum Flipped {
     Pixel,
     Step,
     Reset,
+    Record,
+    Background,
 }
 
 impl Flip {
@@ -37,6 +39,14 @@ impl Flip {
         let buffer = match (self.what, work) {
             (Flipped::Number, Work::Draws(_)) => {
                 last.answer = Answer::Number(8);
+                return;
+            }
+            (Flipped::Record, Work::RecordDraws(_)) => {
+                last.row.iter_mut().last().into_iter().for_each(|record| record.priority ^= 256);
+                return;
+            }
+            (Flipped::Background, Work::RecordStep(_)) => {
+                last.backgrounds[1].x ^= 1;
                 return;
             }
             (Flipped::Entry, Work::Draws(_)) | (Flipped::Reset, Work::Reset(_)) => &mut last.entries,

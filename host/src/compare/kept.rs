@@ -9,8 +9,10 @@ use std::path::Path;
 use std::str::FromStr;
 
 use anyhow::{Context, Result, anyhow, bail, ensure};
+use ashlarkin::{BgAffine, ObjBufferEntry};
 use ashlarkin_oracle::cases::{Case, Draw, Kind};
 
+use super::records::RecordCase;
 use super::work::Work;
 use crate::output;
 
@@ -46,6 +48,17 @@ impl Kept {
                 lines += &format!("step {}\nreferences {}\n", spaced(steps), hex(references));
             }
             Work::Reset(entries) => lines += &format!("reset 1\nentries {}\n", hex(entries)),
+            Work::RecordDraws(RecordCase { case, row }) => {
+                lines += &format!("record-draws {}\n", case.draws.len());
+                lines += &format!("records {}\noutput {}\n", hex(&record_bytes(row)), hex(&case.output));
+                case.draws.iter().for_each(|draw| lines += &draw_text(draw));
+            }
+            Work::RecordStep(backgrounds) => {
+                lines += "record-step 1\n";
+                for BgAffine { pa, pb, pc, pd, x, y, internal_x, internal_y } in backgrounds {
+                    lines += &format!("matrix {pa} {pb} {pc} {pd}\npoints {x} {y} {internal_x} {internal_y}\n");
+                }
+            }
         }
         lines
     }
@@ -68,7 +81,12 @@ impl Kept {
             "draws" => Work::Draws(lines.case(index, number(value)?)?),
             "step" => Work::Step(numbers(value)?, lines.bytes("references")?),
             "reset" => Work::Reset(lines.bytes("entries")?),
-            other => bail!("line {}: {other}, expected draws, step or reset; give a file that is whole", lines.at),
+            "record-draws" => Work::RecordDraws(lines.record_case(index, number(value)?)?),
+            "record-step" => Work::RecordStep([lines.background()?, lines.background()?]),
+            other => bail!(
+                "line {}: {other}, expected draws, step or reset, record-draws, record-step; give a file that is whole",
+                lines.at
+            ),
         };
         lines.end()?;
         Ok(Kept { seed, index, work })
@@ -80,6 +98,23 @@ fn draw_text(draw: &Draw) -> String {
     let head = format!("draw {} {}\nreferences {}\n", input.reading, input.line, spaced(&input.references));
     let [vram, palette, oam, registers] = [input.vram, input.palette, input.oam, input.registers].map(hex);
     head + &format!("vram {vram}\npalette {palette}\noam {oam}\nregisters {registers}\n")
+}
+
+/// Six bytes a record: window, alpha, colour and priority.
+fn record_bytes(row: &[ObjBufferEntry]) -> Vec<u8> {
+    let six = |record: &ObjBufferEntry| {
+        let [[low, high], [least, most]] = [record.color, record.priority].map(u16::to_le_bytes);
+        [record.window.into(), record.alpha.into(), low, high, least, most]
+    };
+    row.iter().flat_map(six).collect()
+}
+
+fn record(bytes: &[u8; 6]) -> Option<ObjBufferEntry> {
+    let [window @ 0..=1, alpha @ 0..=1, low, high, least, most] = *bytes else {
+        return None;
+    };
+    let [color, priority] = [[low, high], [least, most]].map(u16::from_le_bytes);
+    Some(ObjBufferEntry { window: window == 1, alpha: alpha == 1, color, priority })
 }
 
 fn hex(bytes: &[u8]) -> String {
@@ -167,6 +202,25 @@ impl<'a> Lines<'a> {
         Ok(Case { kind: Kind::of(index), draws, entries, output })
     }
 
+    fn record_case(&mut self, index: u64, count: usize) -> Result<RecordCase> {
+        let bytes = self.bytes("records")?;
+        let (records, rest) = bytes.as_chunks::<6>();
+        let row = records.iter().map(record).collect::<Option<Vec<_>>>().filter(|_| rest.is_empty());
+        let row = row.with_context(|| {
+            format!("line {}: expected records of 6 bytes, the first two 0 or 1; give a file that is whole", self.at)
+        })?;
+        let output = self.bytes("output")?;
+        let draws = (0..count).map(|_| self.draw()).collect::<Result<_>>()?;
+        Ok(RecordCase { case: Case { kind: Kind::of(index), draws, entries: vec![], output }, row })
+    }
+
+    fn background(&mut self) -> Result<BgAffine> {
+        let [pa, pb, pc, pd] = numbers(self.value("matrix")?).with_context(|| format!("line {}", self.at))?;
+        let [x, y, internal_x, internal_y] =
+            numbers(self.value("points")?).with_context(|| format!("line {}", self.at))?;
+        Ok(BgAffine { pa, pb, pc, pd, x, y, internal_x, internal_y })
+    }
+
     fn draw(&mut self) -> Result<Draw> {
         let [reading, line] = numbers(self.value("draw")?).with_context(|| format!("line {}", self.at))?;
         let references = numbers(self.value("references")?).with_context(|| format!("line {}", self.at))?;
@@ -234,6 +288,25 @@ mod tests {
         ] {
             assert!(text.contains(from));
             let found = error(&text.replacen(from, to, 1));
+            assert!(found.contains(words), "{found} has {words}");
+        }
+    }
+
+    #[test]
+    fn damaged_records_are_told() {
+        let case = Case { kind: Kind::Faulty, draws: vec![], entries: vec![], output: vec![] };
+        let draws = Work::RecordDraws(RecordCase { case, row: vec![ObjBufferEntry::default(); 2] });
+        let step = Work::RecordStep([BgAffine { pa: 7, ..BgAffine::default() }; 2]);
+        let [draws, step] = [draws, step].map(|work| Kept { seed: 1, index: 6, work }.text("a test"));
+        for (text, from, to, words) in [
+            (&draws, "records 0000", "records 0200", "line 6: expected records of 6 bytes"),
+            (&draws, "records 0000", "records 0003", "the first two 0 or 1"),
+            (&draws, "records 0000", "records 00", "line 6: expected records of 6 bytes"),
+            (&step, "matrix 7", "matrix 70000", "line 6: 70000, expected a number"),
+            (&step, "points 0 ", "points ", "0 0 0, expected 4 numbers"),
+        ] {
+            assert!(text.contains(from) && Kept::of_text(text).is_ok());
+            let found = format!("{:#}", Kept::of_text(&text.replacen(from, to, 1)).err().expect("refused"));
             assert!(found.contains(words), "{found} has {words}");
         }
     }

@@ -2,6 +2,7 @@
 
 mod flip;
 mod kept;
+mod records;
 mod tally;
 mod work;
 
@@ -122,8 +123,8 @@ impl Sides {
         let mut tally = Tally::default();
         for index in indexes {
             for mut work in Work::of(&mut self.cases, plan.seed, index) {
-                if let Work::Draws(case) = &mut work {
-                    case.draws.retain(|draw| plan.readings.take(draw.reading));
+                if let Some(draws) = work.draws() {
+                    draws.retain(|draw| plan.readings.take(draw.reading));
                 }
                 let (library, oracle) = both(&work, index, &mut self.oracle, plan.flip);
                 tally.count(&work, &oracle);

@@ -25,6 +25,8 @@ pub struct Tally {
     draws: Numbers,
     steps: Numbers,
     resets: Numbers,
+    record_draws: Numbers,
+    record_steps: Numbers,
 }
 
 impl Tally {
@@ -34,6 +36,8 @@ impl Tally {
             Work::Draws(_) => &mut self.draws,
             Work::Step(..) => &mut self.steps,
             Work::Reset(_) => &mut self.resets,
+            Work::RecordDraws(_) => &mut self.record_draws,
+            Work::RecordStep(_) => &mut self.record_steps,
         };
         for Given { answer, .. } in given {
             let place = match answer {
@@ -54,19 +58,26 @@ impl Tally {
         add(&mut self.draws, &other.draws);
         add(&mut self.steps, &other.steps);
         add(&mut self.resets, &other.resets);
+        add(&mut self.record_draws, &other.record_draws);
+        add(&mut self.record_steps, &other.record_steps);
         self
     }
 
     /// The counts in words.
     pub fn text(&self, time: Duration) -> String {
-        let [draws, steps, resets] = [self.draws, self.steps, self.resets].map(|numbers| numbers.iter().sum::<u64>());
+        let sum = |numbers: Numbers| numbers.iter().sum::<u64>();
+        let [draws, steps, resets] = [self.draws, self.steps, self.resets].map(sum);
         let all = format!("{draws} draws, {steps} steps, {resets} resets");
         let mut lines = vec![format!("{all}: no difference between library and oracle")];
         lines.extend(KINDS.iter().zip(self.kinds).map(|((_, name), draws)| format!("  {draws:>9} draws {name}")));
         let counts = self.draws.iter().zip(0..).filter(|(count, _)| **count > 0);
         lines.extend(counts.map(|(count, number)| format!("  {count:>9} draws with {number}: {}", meaning(number))));
         lines.push(format!("  steps by number: {}; resets: {}", by_number(&self.steps), by_number(&self.resets)));
-        let rate = draws as f64 / time.as_secs_f64();
+        let [record_draws, record_steps] = [self.record_draws, self.record_steps].map(sum);
+        lines.push(format!("  {record_draws} draws on records, {record_steps} steps on records"));
+        let [by_draws, by_steps] = [&self.record_draws, &self.record_steps].map(by_number);
+        lines.push(format!("  draws on records by number: {by_draws}; steps on records: {by_steps}"));
+        let rate = (draws + record_draws) as f64 / time.as_secs_f64();
         let threads = rayon::current_num_threads();
         lines.push(format!("  {rate:.0} draws a second on both sides, cases made and compared, {threads} threads"));
         lines.join("\n")

@@ -1,8 +1,10 @@
 //! What both sides are asked to do, and what each gives.
 
-use ashlarkin::{ENTRIES_LEN, Input, OUTPUT_LEN};
+use ashlarkin::{BgAffine, ENTRIES_LEN, Input, OUTPUT_LEN, ObjBufferEntry};
 use ashlarkin_oracle::Answer;
 use ashlarkin_oracle::cases::{self, Case, Cases, Draw, Kept};
+
+use super::records::{self, RecordCase};
 
 /// One piece of work of a case.
 pub enum Work {
@@ -12,15 +14,27 @@ pub enum Work {
     Step([i16; 4], Vec<u8>),
     /// A reset of a row.
     Reset(Vec<u8>),
+    /// Draws on one row of records, one after another.
+    RecordDraws(RecordCase),
+    /// A line-end step on records.
+    RecordStep([BgAffine; 2]),
 }
 
-/// What a side gave for one call: its answer, and the lent bytes afterwards; those that weren't lent are empty.
+/// What a side gave for one call: its answer, and what was lent afterwards; what wasn't lent is empty.
 #[derive(Clone, Debug, PartialEq)]
 pub struct Given {
     pub answer: Answer,
     pub entries: Vec<u8>,
     pub output: Vec<u8>,
     pub references: Vec<u8>,
+    pub row: Vec<ObjBufferEntry>,
+    pub backgrounds: Vec<BgAffine>,
+}
+
+impl Given {
+    fn new(answer: Answer) -> Given {
+        Given { answer, entries: vec![], output: vec![], references: vec![], row: vec![], backgrounds: vec![] }
+    }
 }
 
 /// Someone who draws, steps and resets.
@@ -28,6 +42,8 @@ pub trait Side {
     fn draw(&mut self, draw: &Draw, entries: &mut [u8], output: &mut [u8]) -> Answer;
     fn step(&mut self, steps: [i16; 4], references: &mut [u8]) -> Answer;
     fn reset(&mut self, entries: &mut [u8]) -> Answer;
+    fn draw_records(&mut self, draw: &Draw, row: &mut [ObjBufferEntry], output: &mut [u8]) -> Answer;
+    fn step_records(&mut self, backgrounds: &mut [BgAffine; 2]) -> Answer;
 }
 
 /// The proved library.
@@ -52,6 +68,14 @@ impl Side for Library {
     fn reset(&mut self, entries: &mut [u8]) -> Answer {
         number(ashlarkin::reset(entries))
     }
+
+    fn draw_records(&mut self, draw: &Draw, row: &mut [ObjBufferEntry], output: &mut [u8]) -> Answer {
+        number(ashlarkin::draw_records(&input(draw), row, output))
+    }
+
+    fn step_records(&mut self, [bg2, bg3]: &mut [BgAffine; 2]) -> Answer {
+        number(ashlarkin::step_records(bg2, bg3))
+    }
 }
 
 impl Side for Oracle {
@@ -65,6 +89,27 @@ impl Side for Oracle {
 
     fn reset(&mut self, entries: &mut [u8]) -> Answer {
         self.others.reset(entries)
+    }
+
+    /// The answer on the row's bytes, which become records where they were drawn on: not where the draw was refused,
+    /// nor under forced blank.
+    fn draw_records(&mut self, draw: &Draw, row: &mut [ObjBufferEntry], output: &mut [u8]) -> Answer {
+        let mut entries: Vec<u8> = row.iter().flat_map(records::bytes_of).collect();
+        let answer = self.draw(draw, &mut entries, output);
+        if answer == Answer::Number(0) && draw.registers[0] & 0x80 == 0 {
+            row.iter_mut().zip(entries.chunks_exact(4)).for_each(|(record, bytes)| *record = records::record_of(bytes));
+        }
+        answer
+    }
+
+    /// The answer on the references' bytes, which become the running points.
+    fn step_records(&mut self, [bg2, bg3]: &mut [BgAffine; 2]) -> Answer {
+        let points = [bg2.internal_x, bg2.internal_y, bg3.internal_x, bg3.internal_y];
+        let mut references = points.map(i32::to_le_bytes);
+        let answer = self.step([bg2.pb, bg2.pd, bg3.pb, bg3.pd], references.as_flattened_mut());
+        let [x2, y2, x3, y3] = references.map(i32::from_le_bytes);
+        (bg2.internal_x, bg2.internal_y, bg3.internal_x, bg3.internal_y) = (x2, y2, x3, y3);
+        answer
     }
 }
 
@@ -80,10 +125,23 @@ pub fn input(draw: &Draw) -> Input<'_> {
 
 impl Work {
     /// The work of a case. Each has a step and a reset, too; rows of every length up to a few bytes too many are reset.
-    pub fn of(cases: &mut Cases, seed: u64, index: u64) -> [Work; 3] {
+    /// Draws and step are done over records as well.
+    pub fn of(cases: &mut Cases, seed: u64, index: u64) -> Vec<Work> {
+        let case = cases.case(index);
         let (steps, references) = cases::step(seed, index);
         let row = vec![0x5a; (index % (ENTRIES_LEN as u64 + 41)) as usize];
-        [Work::Draws(cases.case(index)), Work::Step(steps, references), Work::Reset(row)]
+        let on_records = RecordCase::of(cases, seed, index, &case).into_iter().map(Work::RecordDraws);
+        let stepped = Work::RecordStep(records::backgrounds(seed, index, steps, &references));
+        let on_bytes = [Work::Draws(case), Work::Step(steps, references), Work::Reset(row)];
+        on_bytes.into_iter().chain(on_records).chain([stepped]).collect()
+    }
+
+    /// The draws of the work, if it has any.
+    pub fn draws(&mut self) -> Option<&mut Vec<Draw>> {
+        match self {
+            Work::Draws(case) | Work::RecordDraws(RecordCase { case, .. }) => Some(&mut case.draws),
+            _ => None,
+        }
     }
 
     /// Does the work, and keeps what each call gave.
@@ -93,12 +151,25 @@ impl Work {
             Work::Step(steps, references) => {
                 let mut references = references.clone();
                 let answer = side.step(*steps, &mut references);
-                vec![Given { answer, entries: vec![], output: vec![], references }]
+                vec![Given { references, ..Given::new(answer) }]
             }
             Work::Reset(row) => {
                 let mut entries = row.clone();
                 let answer = side.reset(&mut entries);
-                vec![Given { answer, entries, output: vec![], references: vec![] }]
+                vec![Given { entries, ..Given::new(answer) }]
+            }
+            Work::RecordDraws(RecordCase { case, row }) => {
+                let (mut row, mut output) = (row.clone(), case.output.clone());
+                let draw = |draw| {
+                    let answer = side.draw_records(draw, &mut row, &mut output);
+                    Given { row: row.clone(), output: output.clone(), ..Given::new(answer) }
+                };
+                case.draws.iter().map(draw).collect()
+            }
+            Work::RecordStep(backgrounds) => {
+                let mut backgrounds = *backgrounds;
+                let answer = side.step_records(&mut backgrounds);
+                vec![Given { backgrounds: backgrounds.to_vec(), ..Given::new(answer) }]
             }
         }
     }
@@ -109,6 +180,8 @@ impl Work {
             Work::Draws(_) => "draw",
             Work::Step(..) => "step",
             Work::Reset(_) => "reset",
+            Work::RecordDraws(_) => "draw on records",
+            Work::RecordStep(_) => "step on records",
         }
     }
 }
@@ -117,7 +190,7 @@ fn run_draws(case: &Case, side: &mut dyn Side) -> Vec<Given> {
     let (mut entries, mut output) = (case.entries.clone(), case.output.clone());
     let draw = |draw| {
         let answer = side.draw(draw, &mut entries, &mut output);
-        Given { answer, entries: entries.clone(), output: output.clone(), references: vec![] }
+        Given { entries: entries.clone(), output: output.clone(), ..Given::new(answer) }
     };
     case.draws.iter().map(draw).collect()
 }
@@ -130,21 +203,29 @@ pub fn difference(library: &[Given], oracle: &[Given]) -> Option<(usize, String)
     if library.answer != oracle.answer {
         parts.push(format!("answer {} and {}", answer(&library.answer), answer(&oracle.answer)));
     }
-    parts.extend(first_byte(&library.entries, &oracle.entries).map(|(byte, ours, theirs)| {
+    parts.extend(first(&library.entries, &oracle.entries).map(|(byte, ours, theirs)| {
         format!("entry byte {byte} (column {}) 0x{ours:02x} and 0x{theirs:02x}", byte / 4)
     }));
-    parts.extend(first_byte(&library.output, &oracle.output).map(|(byte, ..)| {
+    parts.extend(first(&library.output, &oracle.output).map(|(byte, ..)| {
         let (ours, theirs) = (pixel(&library.output, byte), pixel(&oracle.output, byte));
         format!("pixel {} {ours} and {theirs}", byte / 4)
     }));
     parts.extend(
-        first_byte(&library.references, &oracle.references)
+        first(&library.references, &oracle.references)
             .map(|(byte, ours, theirs)| format!("reference byte {byte} 0x{ours:02x} and 0x{theirs:02x}")),
+    );
+    parts.extend(
+        first(&library.row, &oracle.row)
+            .map(|(column, ours, theirs)| format!("record {column} {ours:?} and {theirs:?}")),
+    );
+    parts.extend(
+        first(&library.backgrounds, &oracle.backgrounds)
+            .map(|(at, ours, theirs)| format!("background {} {ours:?} and {theirs:?}", at + 2)),
     );
     Some((at, parts.join(", ")))
 }
 
-fn first_byte(ours: &[u8], theirs: &[u8]) -> Option<(usize, u8, u8)> {
+fn first<T: Copy + PartialEq>(ours: &[T], theirs: &[T]) -> Option<(usize, T, T)> {
     let mut pairs = ours.iter().zip(theirs).enumerate();
     pairs.find(|(_, (ours, theirs))| ours != theirs).map(|(at, (ours, theirs))| (at, *ours, *theirs))
 }

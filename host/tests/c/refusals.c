@@ -137,11 +137,78 @@ static void done(void)
     check(!memcmp(references, stepped, sizeof stepped), "the stepped references", 0);
 }
 
+_Static_assert(sizeof(struct BgAffine) == 24 && sizeof(struct ObjBufferEntry) == 6, "records have no gaps");
+
+/* One more at the end, which no call may reach but with its count. */
+static struct ObjBufferEntry row[ASHLARKIN_RECORDS_COUNT + 1], row_before[ASHLARKIN_RECORDS_COUNT + 1];
+
+static uint32_t draw_records(uint32_t reading, size_t count)
+{
+    memcpy(row_before, row, sizeof row);
+    remember();
+    return ashlarkin_draw_records(reading, 159, 0, 0, 0, 0, vram, ASHLARKIN_VRAM_LEN, palette, ASHLARKIN_PALETTE_LEN,
+        oam, ASHLARKIN_OAM_LEN, registers, ASHLARKIN_REGISTERS_LEN, count ? row : NULL, count, output,
+        ASHLARKIN_OUTPUT_LEN);
+}
+
+static void refused_records(uint32_t number, uint32_t reading, size_t count)
+{
+    check(draw_records(reading, count) == number, "a draw on records gives its number", number);
+    check(unchanged() && !memcmp(row_before, row, sizeof row), "a refused draw changes no record", number);
+}
+
+/* The forms over records. */
+static void records(void)
+{
+    const struct ObjBufferEntry reset = {false, false, 0x8000, 4};
+    fresh();
+    for (size_t i = 0; i <= ASHLARKIN_RECORDS_COUNT; i++)
+        row[i] = reset;
+    refused_records(ASHLARKIN_READING, 2, 239);
+    refused_records(ASHLARKIN_LENGTH, 1, 0);
+    refused_records(ASHLARKIN_LENGTH, 1, 239);
+    refused_records(ASHLARKIN_LENGTH, 1, 241);
+    row[7].priority = 260;
+    refused_records(ASHLARKIN_ENTRY, 1, ASHLARKIN_RECORDS_COUNT);
+    registers[0] = 0x80; /* forced blank */
+    check(draw_records(1, ASHLARKIN_RECORDS_COUNT) == ASHLARKIN_DRAWN && output[0] == 0xf8, "a blank draw", 0);
+    check(!memcmp(row_before, row, sizeof row), "forced blank leaves the records", 0);
+
+    /* A sprite of 8x8 at the left of line 159: its first row colour 1, semi-transparent, of priority 2. */
+    fresh();
+    row[7] = reset;
+    row[239].window = true;
+    registers[1] = 0x10;
+    oam[0] = 159;
+    oam[1] = 0x04;
+    oam[5] = 0x08;
+    memset(vram + 0x10000, 0x11, 4);
+    palette[0x202] = 0x1f;
+    for (size_t i = 8; i < ASHLARKIN_OAM_LEN; i += 8)
+        oam[i + 1] = 0x02; /* hidden */
+    check(draw_records(1, ASHLARKIN_RECORDS_COUNT) == ASHLARKIN_DRAWN, "a draw on records", 0);
+    for (size_t i = 0; i <= ASHLARKIN_RECORDS_COUNT; i++) {
+        const struct ObjBufferEntry *r = &row[i];
+        check(r->color == (i < 8 ? 0x1f : 0x8000) && r->priority == (i < 8 ? 2 : 4), "a record's pixel", i);
+        check(r->alpha == (i < 8) && r->window == (i == 239), "a record's marks", i);
+    }
+    check(output[2] == 0xf8 && output[4 * 8 + 2] == 0, "the sprite shows", 0);
+    check(output[ASHLARKIN_OUTPUT_LEN] == CANARY, "a byte beside the output", 0);
+
+    struct BgAffine bg2 = {1, 2, 3, -4, 5, 6, 100, 200}, bg3 = {7, 1, 8, 0, 9, 10, (1 << 28) - 2, 0};
+    check(ashlarkin_step_records(&bg2, &bg3) == ASHLARKIN_DRAWN, "a step on records", 0);
+    const struct BgAffine stepped2 = {1, 2, 3, -4, 5, 6, 102, 196}, stepped3 = {7, 1, 8, 0, 9, 10, (1 << 28) - 1, 0};
+    check(!memcmp(&bg2, &stepped2, sizeof bg2) && !memcmp(&bg3, &stepped3, sizeof bg3), "the stepped records", 0);
+    check(ashlarkin_step_records(&bg2, &bg3) == ASHLARKIN_REFERENCE, "a step on records out of range", 0);
+    check(!memcmp(&bg2, &stepped2, sizeof bg2) && !memcmp(&bg3, &stepped3, sizeof bg3), "both records stay", 0);
+}
+
 int main(void)
 {
     wrong_lengths();
     other_refusals();
     done();
+    records();
     printf("refusals from C: %d checks\n", tried);
     return 0;
 }
