@@ -23,7 +23,9 @@ fn main() {
 
 /// The folder of the archive, absolute, since rustc runs in another one.
 fn folder() -> PathBuf {
-    let root = Path::new(env!("CARGO_MANIFEST_DIR")).join("../..");
+    // Asked when it runs: a checkout that was copied with its built files must not link the old one's archive.
+    let here = env::var_os("CARGO_MANIFEST_DIR").expect("cargo sets it for build scripts");
+    let root = Path::new(&here).join("../..");
     let named = env::var_os(FOLDER).map(PathBuf::from);
     let folder = root.join(named.unwrap_or_else(|| "target/staticlib".into()));
     fs::canonicalize(&folder).unwrap_or(folder)
