@@ -1,5 +1,6 @@
 # `make run` draws the sample captures to PNG; `make test` is the gate. Each sets up what it needs.
-# Also: `make coverage` writes docs/COVERAGE.md anew; `make bench` measures the proved library beside the oracle.
+# Also: `make coverage` writes docs/COVERAGE.md anew; `make bench` measures the proved library beside the oracle and plots
+# docs/growth.png anew.
 
 BUILT := host/target/release
 FRAMES := host/target/frames
@@ -71,4 +72,6 @@ coverage:
 	@tools/coverage
 
 bench: host
-	@$(BUILT)/ashlarkin bench --seconds 30
+	@tools/setup bench
+	@$(BUILT)/ashlarkin bench --seconds 60 --save host/target/bench.json
+	@tools/plot host/target/bench.json docs/growth.png

@@ -49,6 +49,7 @@ const BENCH_EXAMPLES: &str = "\
 Examples:
   ashlarkin bench                                 a few seconds
   ashlarkin bench --seconds 60 --json
+  ashlarkin bench --only \"mode 3\"                 one mode
 
 Exit status: 0 measured, 1 the two draw different lines, 2 bad usage.";
 
@@ -195,11 +196,24 @@ struct BenchArgs {
     #[arg(long, value_name = "S", default_value = "7", value_parser = value_parser!(u32).range(1..=3600))]
     seconds: u32,
 
+    /// Measure only what has this in its name
+    ///
+    /// The names are those that are printed: mode 0 to mode 5, sample scene, and what lines a second are counted by
+    /// after a comma. Example: --only "mode 3"
+    #[arg(long, value_name = "NAME")]
+    only: Option<String>,
+
     /// Print one JSON object
     ///
     /// Example: --json
     #[arg(long)]
     json: bool,
+
+    /// A file to write the JSON object to, too
+    ///
+    /// A file of that name is replaced. Example: --save bench.json
+    #[arg(long, value_name = "FILE")]
+    save: Option<PathBuf>,
 }
 
 impl Cli {
@@ -208,7 +222,7 @@ impl Cli {
             Command::Frame(args) => frame::run(&args.capture, &args.output, args.style.style()),
             Command::Batch(args) => args.run(),
             Command::Compare(args) => args.run(),
-            Command::Bench(args) => bench::run(args.seconds.into(), args.json),
+            Command::Bench(args) => args.run(),
         }
     }
 }
@@ -228,6 +242,13 @@ impl CompareArgs {
         let seed = self.seed.unwrap_or_else(fresh_seed);
         let plan = Plan { cases: self.cases, seed, readings: self.reading, flip: self.flip_for_test };
         compare::run(&plan, &self.keep)
+    }
+}
+
+impl BenchArgs {
+    fn run(self) -> Result<Exit> {
+        let BenchArgs { seconds, only, json, save } = self;
+        bench::run(&bench::Options { seconds: seconds.into(), only, json, save })
     }
 }
 

@@ -1,4 +1,6 @@
-//! `ashlarkin bench`: every mode and the scene are measured, and the ratio stands last.
+//! `ashlarkin bench`: every mode, the scene and how cost grows are measured, and the ratios stand last.
+
+use std::fs;
 
 use serde_json::Value;
 
@@ -6,12 +8,16 @@ use crate::common::*;
 
 const ROWS: [&str; 7] = ["mode 0", "mode 1", "mode 2", "mode 3", "mode 4", "mode 5", "sample scene"];
 
+const GROWTH: [(&str, usize); 5] =
+    [("sprites", 4), ("affine sprites", 4), ("backgrounds", 5), ("windows", 4), ("effects", 3)];
+
 #[test]
 fn every_mode_is_measured() {
     let run = ashlarkin(&["bench", "--seconds", "1"]);
     assert_eq!((run.status.code(), stderr(&run)), (Some(0), ""));
     let lines: Vec<&str> = stdout(&run).lines().collect();
-    for (row, line) in ROWS.iter().zip(&lines[1..]) {
+    let table = &lines[lines.len() - ROWS.len() - 1..];
+    for (row, line) in ROWS.iter().zip(table) {
         let values: Vec<f64> = line.strip_prefix(row).unwrap().split_whitespace().map(|v| v.parse().unwrap()).collect();
         assert!(values.len() == 3 && values.iter().all(|value| *value > 0.0), "{line}");
         assert!((values[0] / values[1] - values[2]).abs() < 0.02, "{line}");
@@ -32,6 +38,24 @@ fn json_has_the_same() {
     for name in ["read_ms", "draw_ms", "png_ms", "process_ms"] {
         assert!(object["frame"][name].as_f64().unwrap() > 0.0, "{name}");
     }
+    let growth = object["growth"].as_array().unwrap();
+    let sizes =
+        growth.iter().map(|series| (series["name"].as_str().unwrap(), series["points"].as_array().unwrap().len()));
+    assert_eq!(sizes.collect::<Vec<_>>(), GROWTH);
+}
+
+#[test]
+fn one_set_is_measured_alone_and_saved() {
+    let file = scratch("bench-saved").join("bench.json");
+    let run = ashlarkin(&["bench", "--seconds", "1", "--only", "mode 3", "--json", "--save", file.to_str().unwrap()]);
+    assert_eq!((run.status.code(), stderr(&run)), (Some(0), ""));
+    let object: Value = serde_json::from_str(stdout(&run)).unwrap();
+    assert_eq!(serde_json::from_str::<Value>(&fs::read_to_string(file).unwrap()).unwrap(), object);
+    assert_eq!(object["lines_per_second"].as_array().unwrap().len(), 1);
+    assert!(object["lines_per_second"][0]["name"] == "mode 3" && object["frame"].is_null());
+    let run = ashlarkin(&["bench", "--only", "mode 6"]);
+    assert_eq!(run.status.code(), Some(1));
+    assert!(stderr(&run).contains("leave --only out"), "{}", stderr(&run));
 }
 
 #[test]

@@ -3,13 +3,13 @@
 use Prim.Native.Nat.{ℕ, zero, suc, _+_, _-_, _*_, _/_, _%_, _≤_, _<_}
 use native.Mathlib.Omega.{arith}
 use mathlib.Core.Path.{_≡_, refl, sym, ap, ap₂, _∙_}
-use mathlib.Core.Bool.{Bool, true, false, cond, not, _&&_}
+use mathlib.Core.Bool.{Bool, true, false, cond, not, _&&_, _||_}
 use mathlib.Core.List.{List, [], _∷_}
 use lib.Dec.{eqb, leb, ltb}
 use lib.ListN.{getD}
 use borrow.Author.Tests.{ltb-true, ne-eqb}
 use Rattle.bits.specs.Bits.{bit}
-use Rattle.rgb15.specs.Colour.{red, green, blue, white, black, isTransparent, toRgb24, blendWith}
+use Rattle.rgb15.specs.Colour.{rgb, isTransparent, toRgb24, blendWith}
 use Rattle.rgb15.specs.declared.Rgb15.{Rgb15}
 use Rattle.rows.specs.Cells.{cellAt, rowOf}
 use Rattle.rows.specs.Tab.{tab}
@@ -18,12 +18,13 @@ use Rattle.rows.proofs.Cells.{rowOf-cong}
 use Rattle.rows.proofs.Tab.{getD-of-tab, tab-cong}
 use Rattle.rgb15.proofs.Laws.{toRgb24-blendWith-first}
 use Rattle.memory.specs.Palette.{backdrop}
-use Rattle.regs.specs.Registers.{bldcnt, bgcnt, dispcnt}
+use Rattle.regs.specs.Registers.{bldcnt, bldy, bgcnt, dispcnt}
 use Rattle.regs.specs.Background.{priority}
 use Rattle.regs.specs.Display.{enableObj}
 use Rattle.regs.specs.Windows.{permits}
 use Rattle.regs.specs.Layers.{backgroundLayer, targets}
 use Rattle.regs.specs.Blend.{target1, target2, blendMode}
+use Rattle.regs.specs.Reading.{counted}
 use Rattle.regs.specs.declared.BlendMode.{BlendMode}
 use Rattle.regs.specs.declared.BlendMode.the-variants.{BldNone, BldAlpha, BldWhite, BldBlack}
 use Rattle.regs.specs.declared.reading.Reading.{Reading}
@@ -33,8 +34,7 @@ use Rattle.obj.specs.Entry.{entryCells, semiMark}
 use Rattle.obj.specs.declared.entry.Entry.{Entry}
 use Rattle.sfx.specs.Layers.{Layer, Pair, keep, background, backdropLayer, objectLayer}
 use Rattle.sfx.specs.Layers.{counts, objectCounts, firstTwo, placed, layers}
-use Rattle.sfx.specs.Effects.{Effect, none, spriteBlend, controlBlend, brighten, darken}
-use Rattle.sfx.specs.Effects.{isObject, controlEffect, effect, alpha, fade, effectColor}
+use Rattle.sfx.specs.Effects.{none, spriteBlend, isObject, controlEffect, effect, alpha, fade, effectColor}
 use Rattle.windows.specs.Region.{permitted}
 use Rattle.windows.specs.Row.{wordIn, regionAt, regionRow}
 use Rattle.windows.specs.declared.RegionWords.{RegionWords}
@@ -42,19 +42,15 @@ use Rattle.windows.specs.declared.WindowType.{WindowType}
 use Rattle.windows.specs.declared.WindowType.the-variants.{Win0, Win1, WinObj, WinOut, WinNone}
 use Rattle.sfx.specs.Pixel.{caseIn, caseOf, caseColor, pixel}
 use Rattle.sfx.specs.Places.{placedLayer, lineColor, placedLayers}
-use Rattle.sfx.specs.Words.{bitOf, layerTag, layerWord, objectWord, wordPriority, placeTag}
-use Rattle.sfx.specs.Words.{putBackground, placeWord, putObject, permitsPlace, regionWord, columnRegion}
-use Rattle.sfx.specs.Words.{modeNumber, controlNumber, effectNumber, WeightsOf}
-use Rattle.sfx.specs.Words.{topWeight, otherWeight, otherColor, pairColor, backgroundPair, columnColor, LineLayersOf}
+use Rattle.sfx.specs.Words.{bitOf, modeNumber, layerTag, objectTag, tagPriority, placeTag, permitsPlace, regionWord}
+use Rattle.sfx.specs.Words.{putBackground, putObject, columnRegion, isBlended, isFaded, fadeColor, fadeWeight, pairColor}
+use Rattle.sfx.specs.Words.{backgroundPair, columnColor, atColumn, LineLayersOf, WeightsOf}
 use Rattle.sfx.specs.declared.Weights.{Weights}
 use Rattle.sfx.specs.declared.layer.LayerPair.{LayerPair}
 use Rattle.sfx.specs.declared.layer.LineLayers.{LineLayers}
+use Rattle.sfx.proofs.Words.{bitOf-bound}
 
 -- ---- bits
-
-bitOf-bound : (t : Bool) → bitOf t ≤ 1
-bitOf-bound true = omega arith
-bitOf-bound false = omega arith
 
 eqb-bitOf : (t : Bool) → eqb (bitOf t) 1 ≡ t
 eqb-bitOf true = refl
@@ -71,54 +67,32 @@ bitOf-eqb (suc (suc n)) h = absurd (omega arith)
 bitOf-mark : (marks : ℕ) → bitOf (bit 0 marks) ≡ marks % 2
 bitOf-mark marks = bitOf-eqb (marks / 1 % 2) (omega arith) ∙ omega arith
 
--- ---- the word of a layer
+-- ---- the tag of a layer
 
--- The parts of a word.
-module _ (color priority : ℕ) (first second semi : Bool) where
-  word : ℕ
-  word = layerWord (bitOf first + 2 * bitOf second + 8 * priority + 4 * bitOf semi) color
+-- The parts of a tag.
+module _ (priority : ℕ) (first second semi : Bool) where
+  tag : ℕ
+  tag = bitOf first + 2 * bitOf second + 8 * priority + 4 * bitOf semi
 
-  word-color : word % 0x8000 ≡ color % 0x8000
-  unfolding word
-  word-color = omega arith
+  tag-first : bit 0 tag ≡ first
+  unfolding tag
+  tag-first = let e : tag / 1 % 2 ≡ bitOf first = omega (arith, bitOf-bound first) in bit-is first e
 
-  word-first : bit 15 word ≡ first
-  unfolding word
-  word-first = let e : word / 0x8000 % 2 ≡ bitOf first = omega (arith, bitOf-bound first) in bit-is first e
-
-  word-second : bit 16 word ≡ second
-  unfolding word
-  word-second =
-      let e : word / 0x10000 % 2 ≡ bitOf second = omega (arith, bitOf-bound first, bitOf-bound second) in
+  tag-second : bit 1 tag ≡ second
+  unfolding tag
+  tag-second =
+      let e : tag / 2 % 2 ≡ bitOf second = omega (arith, bitOf-bound first, bitOf-bound second) in
       bit-is second e
 
-  word-semi : bit 17 word ≡ semi
-  unfolding word
-  word-semi =
-      let e : word / 0x20000 % 2 ≡ bitOf semi =
-      omega (arith, bitOf-bound first, bitOf-bound second, bitOf-bound semi) in
+  tag-semi : bit 2 tag ≡ semi
+  unfolding tag
+  tag-semi =
+      let e : tag / 4 % 2 ≡ bitOf semi = omega (arith, bitOf-bound first, bitOf-bound second, bitOf-bound semi) in
       bit-is semi e
 
-  word-priority : wordPriority word ≡ priority
-  unfolding word
-  word-priority = omega (arith, bitOf-bound first, bitOf-bound second, bitOf-bound semi)
-
--- ---- an effect's number
-
-numberOf : Effect → ℕ
-numberOf none = 0
-numberOf spriteBlend = 1
-numberOf controlBlend = 1
-numberOf brighten = 2
-numberOf darken = 3
-
-control-number : (mode : BlendMode) (second : Bool) → controlNumber (modeNumber mode) second ≡ numberOf (controlEffect mode second)
-unfolding controlNumber controlEffect numberOf
-control-number BldNone second = refl
-control-number BldAlpha true = refl
-control-number BldAlpha false = refl
-control-number BldWhite second = refl
-control-number BldBlack second = refl
+  tag-priority : tagPriority tag ≡ priority
+  unfolding tag
+  tag-priority = omega (arith, bitOf-bound first, bitOf-bound second, bitOf-bound semi)
 
 -- ---- the word of a region
 
@@ -149,64 +123,87 @@ module _ (a b c d objects effects : Bool) where
       let sixth : six / 32 % 2 ≡ bitOf effects = rw thirtyseconds (omega arith) in
       (bit-is a first, bit-is b second, bit-is c third, bit-is d fourth, bit-is objects fifth, bit-is effects sixth)
 
--- ---- colours without bit 15
+-- ---- colours
 
-red-cut : (x : ℕ) → red (x % 0x8000) ≡ red x
-red-cut x = omega arith
-
-green-cut : (x : ℕ) → green (x % 0x8000) ≡ green x
-green-cut x = omega arith
-
-blue-cut : (x : ℕ) → blue (x % 0x8000) ≡ blue x
-blue-cut x = omega arith
-
-toRgb24-cut : (x : ℕ) → toRgb24 (x % 0x8000) ≡ toRgb24 x
-toRgb24-cut x = cc (red-cut x, green-cut x, blue-cut x)
-
-blendWith-cut : (x y wa wb : ℕ) → blendWith (x % 0x8000) (y % 0x8000) wa wb ≡ blendWith x y wa wb
-unfolding blendWith
-blendWith-cut x y wa wb = rw (red-cut x, green-cut x, blue-cut x, red-cut y, green-cut y, blue-cut y)
-
--- The colour of two that are cut, by the number of an effect.
-cutColor : Weights → ℕ → ℕ → ℕ → ℕ
-cutColor w top bottom n = blendWith (top % 0x8000) (otherColor (bottom % 0x8000) n) (topWeight w n) (otherWeight w n)
+-- The colour of two, by whether they are blended and whether the top is faded.
+blendedColor : Weights → ℕ → ℕ → ℕ → Bool → Bool → ℕ
+blendedColor w mode top bottom blended faded =
+    let evy = cond faded (w .evy) 0 in
+    blendWith top (cond blended bottom (fadeColor mode)) (cond blended (w .eva) (16 - evy)) (cond blended (w .evb) evy)
 
 module _ (reading : Reading) (registers : List ℕ) (w : Weights) (w-is : WeightsOf reading registers w) (top bottom : ℕ) where
-  effect-color : (x : Effect) → toRgb24 (cutColor w top bottom (numberOf x)) ≡ toRgb24 (effectColor reading registers x top bottom)
-  unfolding cutColor effectColor alpha fade numberOf
-  effect-color none = toRgb24-blendWith-first (top % 0x8000) (bottom % 0x8000) ∙ toRgb24-cut top
-  effect-color spriteBlend =
-      ap toRgb24 (blendWith-cut top bottom (w .eva) (w .evb) ∙ ap₂ (blendWith top bottom) (w-is .eva-is) (w-is .evb-is))
-  effect-color controlBlend =
-      ap toRgb24 (blendWith-cut top bottom (w .eva) (w .evb) ∙ ap₂ (blendWith top bottom) (w-is .eva-is) (w-is .evb-is))
-  effect-color brighten =
-      ap toRgb24 (blendWith-cut top white (16 - w .evy) (w .evy) ∙ ap (λ y. blendWith top white (16 - y) y) (w-is .evy-is))
-  effect-color darken =
-      ap toRgb24 (blendWith-cut top black (16 - w .evy) (w .evy) ∙ ap (λ y. blendWith top black (16 - y) y) (w-is .evy-is))
+  alpha-color : (mode : ℕ) (faded : Bool)
+      → toRgb24 (blendedColor w mode top bottom true faded) ≡ toRgb24 (alpha reading registers top bottom)
+  unfolding blendedColor alpha
+  alpha-color mode faded = ap toRgb24 (ap₂ (blendWith top bottom) (w-is .eva-is) (w-is .evb-is))
 
--- ---- layers as words
+  plain-color : (mode : ℕ) → toRgb24 (blendedColor w mode top bottom false false) ≡ toRgb24 top
+  unfolding blendedColor
+  plain-color mode = toRgb24-blendWith-first top (fadeColor mode)
+
+  fade-color : (mode : ℕ)
+      → toRgb24 (blendedColor w mode top bottom false true)
+      ≡ toRgb24 (fade (counted reading (bldy registers)) top (fadeColor mode))
+  unfolding blendedColor fade
+  fade-color mode = ap (λ y. toRgb24 (blendWith top (fadeColor mode) (16 - y) y)) (w-is .evy-is)
+
+  -- The colour of each effect: semi is whether the top is a semi-transparent object, second whether the bottom is a second
+  -- target, first whether the top is a first target that effects are permitted of.
+  effect-color : (mode : BlendMode) (semi second first : Bool)
+      → toRgb24
+      (blendedColor w (modeNumber mode) top bottom (second && (semi || (first && eqb (modeNumber mode) 1)))
+      (first && leb 2 (modeNumber mode)))
+      ≡ toRgb24
+      (effectColor reading registers (cond (semi && second) spriteBlend (cond first (controlEffect mode second) none))
+      top bottom)
+  unfolding effectColor controlEffect
+  effect-color mode true true first = alpha-color (modeNumber mode) (first && leb 2 (modeNumber mode))
+  effect-color mode false second false = unlit second
+    where
+      unlit : (second : Bool) → toRgb24 (blendedColor w (modeNumber mode) top bottom (second && false) false) ≡ toRgb24 top
+      unlit true = plain-color (modeNumber mode)
+      unlit false = plain-color (modeNumber mode)
+  effect-color mode true false false = plain-color (modeNumber mode)
+  effect-color BldNone true false true = plain-color 0
+  effect-color BldNone false true true = plain-color 0
+  effect-color BldNone false false true = plain-color 0
+  effect-color BldAlpha true false true = plain-color 1
+  effect-color BldAlpha false true true = alpha-color 1 false
+  effect-color BldAlpha false false true = plain-color 1
+  effect-color BldWhite true false true = fade-color 2
+  effect-color BldWhite false true true = fade-color 2
+  effect-color BldWhite false false true = fade-color 2
+  effect-color BldBlack true false true = fade-color 3
+  effect-color BldBlack false true true = fade-color 3
+  effect-color BldBlack false false true = fade-color 3
+
+-- ---- layers as code has them
 
 module _ (registers : List ℕ) (semi : Bool) where
-  -- The word of a layer; semi is whether the object is semi-transparent.
-  wordOf : Layer → ℕ
-  wordOf l =
-      word (l .color) (l .priority)
-      (targets (target1 (bldcnt registers)) (l .kind)) (targets (target2 (bldcnt registers)) (l .kind))
+  -- The tag of a layer; semi is whether the object is semi-transparent.
+  tagOf : Layer → ℕ
+  tagOf l =
+      tag (l .priority) (targets (target1 (bldcnt registers)) (l .kind)) (targets (target2 (bldcnt registers)) (l .kind))
       (isObject (l .kind) && semi)
 
-  priority-of : (l : Layer) → wordPriority (wordOf l) ≡ l .priority
-  unfolding wordOf
-  priority-of l = word-priority (l .color) (l .priority) _ _ _
+  priority-of : (l : Layer) → tagPriority (tagOf l) ≡ l .priority
+  unfolding tagOf
+  priority-of l = tag-priority (l .priority) _ _ _
 
   pairOf : Pair → LayerPair
-  pairOf p = record { top = wordOf (p .top); bottom = wordOf (p .bottom) }
+  pairOf p =
+      record {
+        top = p .top .color;
+        «top_tag» = tagOf (p .top);
+        bottom = p .bottom .color;
+        «bottom_tag» = tagOf (p .bottom);
+      }
 
   -- A layer that is no object.
-  plain-word : (l : Layer) → isObject (l .kind) ≡ false
-      → layerWord (layerTag (target1 (bldcnt registers)) (target2 (bldcnt registers)) (l .kind) (l .priority)) (l .color)
-      ≡ wordOf l
-  unfolding layerTag wordOf word
-  plain-word l e = rw e (omega arith)
+  plain-tag : (l : Layer) → isObject (l .kind) ≡ false
+      → layerTag (target1 (bldcnt registers)) (target2 (bldcnt registers)) (l .kind) (l .priority) ≡ tagOf l
+  unfolding layerTag tagOf tag
+  plain-tag l e = rw e (omega arith)
 
   -- The first two that count, one layer more.
   firstTwo-more : (flags : ℕ) (back l : Layer) (rest : List Layer)
@@ -230,12 +227,18 @@ module _ (registers : List ℕ) (semi : Bool) where
   isObject-background bg bg< = rw (layerBit-background bg bg<) (ne-eqb bg 4 (λ e. omega arith))
 
   -- A layer over what is behind it, if it counts.
-  put-over : (l : Layer) (behind : Pair) (t : Bool) {w : ℕ} → w ≡ wordOf l
-      → cond t (record { top = w; bottom = wordOf (behind .top) }) (pairOf behind)
-      ≡ pairOf (cond t (record { top = l; bottom = behind .top }) behind)
+  put-over : (l : Layer) (behind : Pair) (t : Bool)
+      → _≡_ {A = LayerPair}
+      (record {
+        top = cond t (l .color) (behind .top .color);
+        «top_tag» = cond t (tagOf l) (tagOf (behind .top));
+        bottom = cond t (behind .top .color) (behind .bottom .color);
+        «bottom_tag» = cond t (tagOf (behind .top)) (tagOf (behind .bottom));
+      })
+      (pairOf (cond t (record { top = l; bottom = behind .top }) behind))
   unfolding pairOf
-  put-over l behind true e = λ i. record { top = e i; bottom = wordOf (behind .top) }
-  put-over l behind false e = refl
+  put-over l behind true = refl
+  put-over l behind false = refl
 
   -- The background of a place over what is behind it, if the place has one.
   module _ (flags : ℕ) (back : Layer) (rest : List Layer) (place color : ℕ) where
@@ -248,8 +251,8 @@ module _ (registers : List ℕ) (semi : Bool) where
     unfolding putBackground counts pairOf
     put-background place< =
         let l : Layer = background registers place color in
-        put-over l (firstTwo flags back rest) (permits flags place && not (isTransparent color))
-        (plain-word l (isObject-background place place<))
+        rw (plain-tag l (isObject-background place place<))
+        (put-over l (firstTwo flags back rest) (permits flags place && not (isTransparent color)))
         ∙ ap (λ n. pairOf
         (cond (permits flags n && not (isTransparent color))
         (record { top = l; bottom = firstTwo flags back rest .top })
@@ -276,77 +279,64 @@ module _ (registers : List ℕ) (semi : Bool) where
 
   -- ---- the object
 
-  word-of-object : (e : Entry) → semi ≡ semiMark e
-      → objectWord (layerTag (target1 (bldcnt registers)) (target2 (bldcnt registers)) Objects 0) e ≡ wordOf (objectLayer e)
-  unfolding layerTag wordOf word
-  word-of-object e semi-is = rw semi-is (omega (arith, bitOf-mark (e .marks)))
+  tag-of-object : (e : Entry) → semi ≡ semiMark e
+      → objectTag (layerTag (target1 (bldcnt registers)) (target2 (bldcnt registers)) Objects 0) e ≡ tagOf (objectLayer e)
+  unfolding layerTag tagOf tag
+  tag-of-object e semi-is = rw semi-is (omega (arith, bitOf-mark (e .marks)))
 
-  place-object : (object : Layer) (p : Pair) → placeWord (wordOf object) (pairOf p) ≡ pairOf (placed object p)
-  unfolding placeWord placed pairOf
-  place-object object p =
+  -- An object in its place, if it is permitted and opaque.
+  place-object : (object : Layer) (permitted : Bool) (p : Pair)
+      → putObject (pairOf p) permitted (tagOf object) (object .color)
+      ≡ pairOf (cond (permitted && not (isTransparent (object .color))) (placed object p) p)
+  unfolding putObject placed pairOf
+  place-object object permitted p =
       rw (priority-of object, priority-of (p .top), priority-of (p .bottom))
-      (go (leb (object .priority) (p .top .priority)) (leb (object .priority) (p .bottom .priority)))
+      (go (permitted && not (isTransparent (object .color))) (leb (object .priority) (p .top .priority))
+      (leb (object .priority) (p .bottom .priority)))
     where
-      go : (s t : Bool)
-          → cond s (record { top = wordOf object; bottom = wordOf (p .top) })
-          (cond t (record { top = wordOf (p .top); bottom = wordOf object }) (pairOf p))
-          ≡ pairOf (cond s (record { top = object; bottom = p .top }) (cond t (record { top = p .top; bottom = object }) p))
-      go true t = refl
-      go false true = refl
-      go false false = refl
+      go : (c s t : Bool)
+          → _≡_ {A = LayerPair}
+          (record {
+            top = cond (c && s) (object .color) (p .top .color);
+            «top_tag» = cond (c && s) (tagOf object) (tagOf (p .top));
+            bottom = cond (c && s) (p .top .color) (cond (c && t) (object .color) (p .bottom .color));
+            «bottom_tag» = cond (c && s) (tagOf (p .top)) (cond (c && t) (tagOf object) (tagOf (p .bottom)));
+          })
+          (pairOf
+          (cond c (cond s (record { top = object; bottom = p .top }) (cond t (record { top = p .top; bottom = object }) p)) p))
+      go true true t = refl
+      go true false true = refl
+      go true false false = refl
+      go false s t = refl
 
   -- Top and bottom of a column, the object put in its place.
   put-layers : (flags color : ℕ) (bgs : List Layer) (e : Entry) → semi ≡ semiMark e
       → putObject (pairOf (firstTwo flags (backdropLayer color) bgs)) (permits flags 4 && enableObj (dispcnt registers))
-      (layerTag (target1 (bldcnt registers)) (target2 (bldcnt registers)) Objects 0) e
+      (objectTag (layerTag (target1 (bldcnt registers)) (target2 (bldcnt registers)) Objects 0) e) (e .color .0)
       ≡ pairOf (layers registers flags color bgs e)
-  unfolding putObject layers objectCounts
+  unfolding layers objectCounts
   put-layers flags color bgs e semi-is =
-      rw (word-of-object e semi-is)
-      (go ((permits flags 4 && enableObj (dispcnt registers)) && not (isTransparent (e .color .0))))
-    where
-      two : Pair
-      two = firstTwo flags (backdropLayer color) bgs
-
-      go : (t : Bool)
-          → cond t (placeWord (wordOf (objectLayer e)) (pairOf two)) (pairOf two)
-          ≡ pairOf (cond t (placed (objectLayer e) two) two)
-      go true = place-object (objectLayer e) two
-      go false = refl
+      rw (tag-of-object e semi-is)
+      (place-object (objectLayer e) (permits flags 4 && enableObj (dispcnt registers))
+      (firstTwo flags (backdropLayer color) bgs))
 
   -- ---- the effect
 
-  effect-of-pair : (flags : ℕ) (p : Pair)
-      → effectNumber (modeNumber (blendMode (bldcnt registers))) (permits flags 5) (pairOf p)
-      ≡ numberOf (effect registers flags semi p)
-  unfolding effectNumber effect pairOf wordOf numberOf
-  effect-of-pair flags p =
+  pair-color : (reading : Reading) (flags : ℕ) {w : Weights} (p : Pair) → WeightsOf reading registers w
+      → toRgb24 (pairColor w (modeNumber (blendMode (bldcnt registers))) (permits flags 5) (pairOf p))
+      ≡ toRgb24 (effectColor reading registers (effect registers flags semi p) (p .top .color) (p .bottom .color))
+  unfolding pairColor isBlended fadeWeight isFaded effect pairOf tagOf blendedColor
+  pair-color reading flags {w} p w-is =
       let control = bldcnt registers in
       let top = p .top in
       let bottom = p .bottom in
       rw (
-        word-second (bottom .color) (bottom .priority) _ (targets (target2 control) (bottom .kind)) _,
-        word-semi (top .color) (top .priority) _ _ (isObject (top .kind) && semi),
-        word-first (top .color) (top .priority) (targets (target1 control) (top .kind)) _ _,
-        control-number (blendMode control) (targets (target2 control) (bottom .kind)),
+        tag-second (bottom .priority) _ (targets (target2 control) (bottom .kind)) _,
+        tag-semi (top .priority) _ _ (isObject (top .kind) && semi),
+        tag-first (top .priority) (targets (target1 control) (top .kind)) _ _,
       )
-      (go ((isObject (top .kind) && semi) && targets (target2 control) (bottom .kind))
-      (permits flags 5 && targets (target1 control) (top .kind))
-      (controlEffect (blendMode control) (targets (target2 control) (bottom .kind))))
-    where
-      go : (s t : Bool) (x : Effect)
-          → cond s 1 (cond t (numberOf x) 0) ≡ numberOf (cond s spriteBlend (cond t x none))
-      go true t x = refl
-      go false true x = refl
-      go false false x = refl
-
-  pair-color : (w : Weights) (n : ℕ) (p : Pair) → pairColor w n (pairOf p) ≡ cutColor w (p .top .color) (p .bottom .color) n
-  unfolding pairColor pairOf wordOf cutColor
-  pair-color w n p =
-      rw (
-        word-color (p .top .color) (p .top .priority) _ _ _,
-        word-color (p .bottom .color) (p .bottom .priority) _ _ _,
-      )
+      (effect-color reading registers w w-is (top .color) (bottom .color) (blendMode control) (isObject (top .kind) && semi)
+      (targets (target2 control) (bottom .kind)) (permits flags 5 && targets (target1 control) (top .kind)))
 
 -- ---- a column's pixel
 
@@ -374,12 +364,18 @@ placedColors registers at a b c d =
 module _ (palette registers at : List ℕ) {line : LineLayers} (line-is : LineLayersOf palette registers at line)
     (a b c d : ℕ) (e : Entry) where
   backdrop-pair : (flags : ℕ)
-      → _≡_ {A = LayerPair} (record { top = line .backdrop; bottom = line .backdrop })
+      → _≡_ {A = LayerPair}
+      (record {
+        top = line .backdrop;
+        «top_tag» = line .«backdrop_tag»;
+        bottom = line .backdrop;
+        «bottom_tag» = line .«backdrop_tag»;
+      })
       (pairOf registers (semiMark e) (firstTwo flags (backdropLayer (backdrop palette)) []))
   unfolding firstTwo keep pairOf
   backdrop-pair flags =
-      let w = line-is .backdrop-is ∙ plain-word registers (semiMark e) (backdropLayer (backdrop palette)) refl in
-      λ i. record { top = w i; bottom = w i }
+      let t = line-is .backdrop-tag-is ∙ plain-tag registers (semiMark e) (backdropLayer (backdrop palette)) refl in
+      rw (line-is .backdrop-is, t)
 
   background-pair : (flags : ℕ)
       → backgroundPair line (regionWord (enableObj (dispcnt registers)) at flags) a b c d
@@ -407,7 +403,7 @@ module _ (palette registers at : List ℕ) {line : LineLayers} (line-is : LineLa
 
   column-pair : (flags : ℕ)
       → putObject (backgroundPair line (regionWord (enableObj (dispcnt registers)) at flags) a b c d)
-      (bit 4 (regionWord (enableObj (dispcnt registers)) at flags)) (line .object) e
+      (bit 4 (regionWord (enableObj (dispcnt registers)) at flags)) (objectTag (line .object) e) (e .color .0)
       ≡ pairOf registers (semiMark e) (layers registers flags (backdrop palette) (placedColors registers at a b c d) e)
   column-pair flags =
       rw (background-pair flags, region-bits (enableObj (dispcnt registers)) at flags .4, line-is .object-is)
@@ -415,7 +411,9 @@ module _ (palette registers at : List ℕ) {line : LineLayers} (line-is : LineLa
 
   -- The colour of a column in a region is that of its case.
   pub column-color : (reading : Reading) {w : Weights} → WeightsOf reading registers w → (kind : WindowType)
-      → toRgb24 (columnColor line w (regionWord (enableObj (dispcnt registers)) at (permitted registers kind)) e a b c d)
+      → toRgb24
+      (columnColor line w (regionWord (enableObj (dispcnt registers)) at (permitted registers kind))
+      (objectTag (line .object) e) (e .color .0) a b c d)
       ≡ toRgb24
       (caseColor reading registers
       (caseIn registers kind (backdrop palette) (placedColors registers at a b c d) e))
@@ -423,14 +421,8 @@ module _ (palette registers at : List ℕ) {line : LineLayers} (line-is : LineLa
   column-color reading {w} w-is kind =
       let flags = permitted registers kind in
       let p : Pair = layers registers flags (backdrop palette) (placedColors registers at a b c d) e in
-      rw (
-        column-pair flags,
-        line-is .mode-is,
-        region-bits (enableObj (dispcnt registers)) at flags .5,
-        effect-of-pair registers (semiMark e) flags p,
-        pair-color registers (semiMark e) w (numberOf (effect registers flags (semiMark e) p)) p,
-      )
-      (effect-color reading registers w w-is (p .top .color) (p .bottom .color) (effect registers flags (semiMark e) p))
+      rw (column-pair flags, line-is .mode-is, region-bits (enableObj (dispcnt registers)) at flags .5)
+      (pair-color registers (semiMark e) reading flags p w-is)
 
 -- ---- a line
 
@@ -454,36 +446,47 @@ module _ (registers at : List ℕ) {objects : Bool} (objects-is : objects ≡ en
       → r ≡ tab (columnRegion reading registers entries at line) 240
   regions-are reading entries line r-is = r-is ∙ tab-cong _ _ 240 (λ column lt. wordIn-is _)
 
--- The row of a line, by its regions, its layers, its weights and the pixels made of them.
+-- The row of a line, by its regions, its layers, its weights, its entries' tags and colours, and the pixels made of them.
 module _ (reading : Reading) (palette registers entries at : List ℕ) (line : ℕ) (line0 line1 line2 line3 : List Rgb15) where
-  pub scanline-is : {regions pixels out : List ℕ} {l : LineLayers} {w : Weights}
+  -- The colour of a column, as its rows give it.
+  pixel-is : {regions tags objects : List ℕ} {l : LineLayers} {w : Weights} (column : ℕ) → column < 240
       → regions ≡ tab (columnRegion reading registers entries at line) 240
       → LineLayersOf palette registers at l
       → WeightsOf reading registers w
-      → pixels ≡ tab
-      (λ column.
-      toRgb24
-      (columnColor l w (getD regions column 0) (cellAt entryCells entries column)
-      (lineColor line0 column) (lineColor line1 column) (lineColor line2 column) (lineColor line3 column)))
-      240
+      → tags ≡ tab (λ k. objectTag (l .object) (cellAt entryCells entries k)) 240
+      → objects ≡ tab (λ k. cellAt entryCells entries k .color .0) 240
+      → toRgb24 (atColumn (columnColor l w) regions tags objects line0 line1 line2 line3 column .0)
+      ≡ pixel reading registers (backdrop palette) (placedLayers registers at line0 line1 line2 line3 column)
+      (cellAt entryCells entries column) column line
+  unfolding pixel caseOf placedLayers placedColors atColumn
+  pixel-is column lt regions-is l-is w-is tags-are objects-are =
+      rw (
+        getD-of-tab _ 240 column 0 regions-is lt,
+        getD-of-tab _ 240 column 0 tags-are lt,
+        getD-of-tab _ 240 column 0 objects-are lt,
+      )
+      (column-color palette registers at l-is
+      (lineColor line0 column) (lineColor line1 column) (lineColor line2 column) (lineColor line3 column)
+      (cellAt entryCells entries column) reading w-is (regionAt reading registers entries column line))
+
+  pub scanline-is : {regions tags objects pixels out : List ℕ} {colors : List Rgb15} {l : LineLayers} {w : Weights}
+      → regions ≡ tab (columnRegion reading registers entries at line) 240
+      → LineLayersOf palette registers at l
+      → WeightsOf reading registers w
+      → tags ≡ tab (λ column. objectTag (l .object) (cellAt entryCells entries column)) 240
+      → objects ≡ tab (λ column. cellAt entryCells entries column .color .0) 240
+      → colors ≡ tab (atColumn (columnColor l w) regions tags objects line0 line1 line2 line3) 240
+      → pixels ≡ tab (λ column. toRgb24 (lineColor colors column)) 240
       → out ≡ rowOf wordCells (λ column. getD pixels column 0) 240
       → out ≡ rowOf wordCells
       (λ column.
       pixel reading registers (backdrop palette) (placedLayers registers at line0 line1 line2 line3 column)
       (cellAt entryCells entries column) column line)
       240
-  unfolding pixel caseOf placedLayers placedColors
-  scanline-is {l = l} {w = w} regions-is l-is w-is pixels-is out-is =
+  scanline-is regions-is l-is w-is tags-are objects-are colors-are pixels-are out-is =
       out-is
       ∙ rowOf-cong wordCells _ _ 240
       (λ column lt.
-      getD-of-tab _ 240 column 0 pixels-is lt
-      ∙ ap
-      (λ r.
-      toRgb24
-      (columnColor l w r (cellAt entryCells entries column)
-      (lineColor line0 column) (lineColor line1 column) (lineColor line2 column) (lineColor line3 column)))
-      (getD-of-tab _ 240 column 0 regions-is lt)
-      ∙ column-color palette registers at l-is
-      (lineColor line0 column) (lineColor line1 column) (lineColor line2 column) (lineColor line3 column)
-      (cellAt entryCells entries column) reading w-is (regionAt reading registers entries column line))
+      getD-of-tab _ 240 column 0 pixels-are lt
+      ∙ ap (λ (c : Rgb15). toRgb24 (c .0)) (getD-of-tab _ 240 column (rgb 0) colors-are lt)
+      ∙ pixel-is column lt regions-is l-is w-is tags-are objects-are)

@@ -1,18 +1,18 @@
 -- Laws of words, for the functions that compute with them: what the calls of each give is what its definition says. No contract
 -- cites this file. Assumes nothing.
-use Prim.Native.Nat.{ℕ, _+_, _-_, _*_, _%_, _≤_, _<_}
-use mathlib.Core.Path.{_≡_, refl, sym, ap, ap₂, _∙_}
-use mathlib.Core.Bool.{Bool, true, false, cond, not, _&&_}
+use Prim.Native.Nat.{ℕ, _+_, _-_, _*_, _≤_, _<_}
+use mathlib.Core.Path.{_≡_, sym, ap, ap₂, _∙_}
+use mathlib.Core.Bool.{Bool, true, false, cond, _&&_}
 use mathlib.Core.List.{List}
 use native.Mathlib.Omega.{arith}
-use lib.Dec.{eqb, leb}
+use lib.Dec.{leb}
 use lib.ListN.{getD}
 use mir.Syntax.{w64}
 use mir.Val.{Fits}
 use borrow.Author.Tests.{lt-ltb, le-ltb}
 use Rattle.bits.specs.Bits.{bit}
-use Rattle.rgb15.specs.Colour.{white, black, isTransparent, toRgb24, blendWith}
-use Rattle.rows.specs.Cells.{cellAt}
+use Rattle.rgb15.specs.Colour.{rgb, blendWith}
+use Rattle.rgb15.specs.declared.Rgb15.{Rgb15}
 use Rattle.memory.specs.Palette.{backdrop}
 use Rattle.regs.specs.Registers.{bgcnt, bldcnt, bldalpha, bldy}
 use Rattle.regs.specs.Blend.{BlendControlOf, BlendAlphaOf}
@@ -26,78 +26,76 @@ use Rattle.regs.specs.declared.BlendControl.{BlendControl}
 use Rattle.regs.specs.declared.layer.RenderLayerKind.{RenderLayerKind}
 use Rattle.regs.specs.declared.layer.RenderLayerKind.the-variants.{Objects, Backdrop}
 use Rattle.regs.specs.declared.reading.Reading.{Reading}
-use Rattle.obj.specs.Entry.{entryCells}
-use Rattle.obj.specs.declared.entry.Entry.{Entry}
-use Rattle.sfx.specs.Words.{bitOf, permitsPlace, regionWord, topWeight, otherWeight, otherColor}
-use Rattle.sfx.specs.Words.{layerTag, layerWord, objectWord, wordPriority, placeTag, putBackground, placeWord, putObject}
-use Rattle.sfx.specs.Words.{modeNumber, LineLayersOf, WeightsOf, Weighed, controlNumber, effectNumber, pairColor, backgroundPair, columnColor}
+use Rattle.sfx.specs.Places.{lineColor}
+use Rattle.sfx.specs.Words.{bitOf, modeNumber, layerTag, tagPriority, placeTag, permitsPlace, regionWord, LineLayersOf}
+use Rattle.sfx.specs.Words.{shows, putTop, putBackground, putTopObject, putObject, isBlended, isFaded, WeightsOf, Weighed}
+use Rattle.sfx.specs.Words.{fadeColor, fadeWeight, fadedColor, pairColor, backgroundPair, backgroundTop, columnColor, topColor, atColumn}
 use Rattle.sfx.specs.declared.Weights.{Weights}
+use Rattle.sfx.specs.declared.layer.Layer.{Layer}
 use Rattle.sfx.specs.declared.layer.LayerPair.{LayerPair}
 use Rattle.sfx.specs.declared.layer.LineLayers.{LineLayers}
 
+-- ---- bits
+
+pub bitOf-bound : (t : Bool) → bitOf t ≤ 1
+bitOf-bound true = omega arith
+bitOf-bound false = omega arith
+
 -- ---- layers
 
--- Two words chosen by one test.
-choose-pair : (test : Bool) (a b : ℕ) (p : LayerPair)
-    → _≡_ {A = LayerPair} (record { top = cond test a (p .top); bottom = cond test b (p .bottom) })
-    (cond test (record { top = a; bottom = b }) p)
-choose-pair true a b p = refl
-choose-pair false a b p = refl
+module _ (permitted : Bool) (tag color : ℕ) where
+  pub putTop-is : (behind : Layer) {over : Bool} {a b : ℕ}
+      → over ≡ shows permitted color
+      → a ≡ cond over color (behind .color)
+      → b ≡ cond over tag (behind .tag)
+      → _≡_ {A = Layer} (record { color = a; tag = b }) (putTop behind permitted tag color)
+  unfolding putTop
+  putTop-is behind over-is a-is b-is = rw (a-is, b-is, over-is)
 
-pub putBackground-is : (p : LayerPair) (permitted : Bool) (tag color : ℕ) {clear : Bool} {w t b : ℕ}
-    → clear ≡ isTransparent color
-    → w ≡ layerWord tag color
-    → t ≡ cond (permitted && not clear) w (p .top)
-    → b ≡ cond (permitted && not clear) (p .top) (p .bottom)
-    → _≡_ {A = LayerPair} (record { top = t; bottom = b }) (putBackground p permitted tag color)
-unfolding putBackground
-putBackground-is p permitted tag color clear-is w-is t-is b-is =
-    rw (t-is, b-is, w-is, clear-is)
-    (choose-pair (permitted && not (isTransparent color)) (layerWord tag color) (p .top) p)
+  pub putBackground-is : (behind : LayerPair) {over : Bool} {a b c d : ℕ}
+      → over ≡ shows permitted color
+      → a ≡ cond over color (behind .top)
+      → b ≡ cond over tag (behind .«top_tag»)
+      → c ≡ cond over (behind .top) (behind .bottom)
+      → d ≡ cond over (behind .«top_tag») (behind .«bottom_tag»)
+      → _≡_ {A = LayerPair} (record { top = a; «top_tag» = b; bottom = c; «bottom_tag» = d })
+      (putBackground behind permitted tag color)
+  unfolding putBackground
+  putBackground-is behind over-is a-is b-is c-is d-is = rw (a-is, b-is, c-is, d-is, over-is)
 
-pub placeWord-is : (object : ℕ) (counts : Bool) (p : LayerPair) {below t b : ℕ}
-    → below ≡ cond (counts && leb (wordPriority object) (wordPriority (p .bottom))) object (p .bottom)
-    → t ≡ cond (counts && leb (wordPriority object) (wordPriority (p .top))) object (p .top)
-    → b ≡ cond (counts && leb (wordPriority object) (wordPriority (p .top))) (p .top) below
-    → _≡_ {A = LayerPair} (record { top = t; bottom = b }) (cond counts (placeWord object p) p)
-unfolding placeWord
-placeWord-is object counts p below-is t-is b-is =
-    rw (t-is, b-is, below-is)
-    (go counts (leb (wordPriority object) (wordPriority (p .top))) (leb (wordPriority object) (wordPriority (p .bottom))))
-  where
-    go : (c s t : Bool)
-        → _≡_ {A = LayerPair}
-        (record {
-          top = cond (c && s) object (p .top);
-          bottom = cond (c && s) (p .top) (cond (c && t) object (p .bottom));
-        })
-        (cond c
-        (cond s (record { top = object; bottom = p .top }) (cond t (record { top = p .top; bottom = object }) p))
-        p)
-    go true true t = refl
-    go true false true = refl
-    go true false false = refl
-    go false s t = refl
+  pub putTopObject-is : (behind : Layer) {counts : Bool} {a b : ℕ}
+      → counts ≡ shows permitted color
+      → a ≡ cond (counts && leb (tagPriority tag) (tagPriority (behind .tag))) color (behind .color)
+      → b ≡ cond (counts && leb (tagPriority tag) (tagPriority (behind .tag))) tag (behind .tag)
+      → _≡_ {A = Layer} (record { color = a; tag = b }) (putTopObject behind permitted tag color)
+  unfolding putTopObject
+  putTopObject-is behind counts-is a-is b-is = rw (a-is, b-is, counts-is)
 
-pub putObject-is : (p : LayerPair) (permitted : Bool) (tag : ℕ) (e : Entry) {clear : Bool} {w : ℕ} {r : LayerPair}
-    → clear ≡ isTransparent (e .color .0)
-    → w ≡ objectWord tag e
-    → r ≡ cond (permitted && not clear) (placeWord w p) p
-    → r ≡ putObject p permitted tag e
-unfolding putObject
-putObject-is p permitted tag e clear-is w-is r-is = r-is ∙ rw (w-is, clear-is)
-
-pub effectNumber-is : (mode : ℕ) (permitted : Bool) (p : LayerPair) {control other r : ℕ}
-    → control ≡ controlNumber mode (bit 16 (p .bottom))
-    → other ≡ cond (permitted && bit 15 (p .top)) control 0
-    → r ≡ cond (bit 17 (p .top) && bit 16 (p .bottom)) 1 other
-    → r ≡ effectNumber mode permitted p
-unfolding effectNumber
-effectNumber-is mode permitted p control-is other-is r-is = r-is ∙ rw (other-is, control-is)
+  -- Of the bottom, e and f are what it would be with another top.
+  pub putObject-is : (behind : LayerPair) {counts : Bool} {a b c d e f : ℕ}
+      → counts ≡ shows permitted color
+      → a ≡ cond (counts && leb (tagPriority tag) (tagPriority (behind .«top_tag»))) color (behind .top)
+      → b ≡ cond (counts && leb (tagPriority tag) (tagPriority (behind .«top_tag»))) tag (behind .«top_tag»)
+      → e ≡ cond (counts && leb (tagPriority tag) (tagPriority (behind .«bottom_tag»))) color (behind .bottom)
+      → c ≡ cond (counts && leb (tagPriority tag) (tagPriority (behind .«top_tag»))) (behind .top) e
+      → f ≡ cond (counts && leb (tagPriority tag) (tagPriority (behind .«bottom_tag»))) tag (behind .«bottom_tag»)
+      → d ≡ cond (counts && leb (tagPriority tag) (tagPriority (behind .«top_tag»))) (behind .«top_tag») f
+      → _≡_ {A = LayerPair} (record { top = a; «top_tag» = b; bottom = c; «bottom_tag» = d })
+      (putObject behind permitted tag color)
+  unfolding putObject
+  putObject-is behind counts-is a-is b-is e-is c-is f-is d-is = rw (a-is, b-is, c-is, d-is, e-is, f-is, counts-is)
 
 module _ (line : LineLayers) (region a b c d : ℕ) where
   pub backgroundPair-is : {first second third fourth : LayerPair}
-      → fourth ≡ putBackground (record { top = line .backdrop; bottom = line .backdrop }) (bit 3 region) (line .place3) d
+      → fourth
+      ≡ putBackground
+      (record {
+        top = line .backdrop;
+        «top_tag» = line .«backdrop_tag»;
+        bottom = line .backdrop;
+        «bottom_tag» = line .«backdrop_tag»;
+      })
+      (bit 3 region) (line .place3) d
       → third ≡ putBackground fourth (bit 2 region) (line .place2) c
       → second ≡ putBackground third (bit 1 region) (line .place1) b
       → first ≡ putBackground second (bit 0 region) (line .place0) a
@@ -105,14 +103,30 @@ module _ (line : LineLayers) (region a b c d : ℕ) where
   unfolding backgroundPair
   backgroundPair-is fourth-is third-is second-is first-is = cc
 
-  pub columnColor-is : (e : Entry) (w : Weights) {p q : LayerPair} {effect color : ℕ}
+  pub backgroundTop-is : {first second third fourth : Layer}
+      → fourth ≡ putTop (record { color = line .backdrop; tag = line .«backdrop_tag» }) (bit 3 region) (line .place3) d
+      → third ≡ putTop fourth (bit 2 region) (line .place2) c
+      → second ≡ putTop third (bit 1 region) (line .place1) b
+      → first ≡ putTop second (bit 0 region) (line .place0) a
+      → first ≡ backgroundTop line region a b c d
+  unfolding backgroundTop
+  backgroundTop-is fourth-is third-is second-is first-is = cc
+
+  pub columnColor-is : (tag object : ℕ) (w : Weights) {p q : LayerPair} {color : ℕ}
       → p ≡ backgroundPair line region a b c d
-      → q ≡ putObject p (bit 4 region) (line .object) e
-      → effect ≡ effectNumber (line .mode) (bit 5 region) q
-      → color ≡ pairColor w effect q
-      → color ≡ columnColor line w region e a b c d
+      → q ≡ putObject p (bit 4 region) tag object
+      → color ≡ pairColor w (line .mode) (bit 5 region) q
+      → color ≡ columnColor line w region tag object a b c d
   unfolding columnColor
-  columnColor-is e w p-is q-is effect-is color-is = color-is ∙ rw (effect-is, q-is, p-is)
+  columnColor-is tag object w p-is q-is color-is = color-is ∙ rw (q-is, p-is)
+
+  pub topColor-is : (tag object : ℕ) (w : Weights) {l m : Layer} {color : ℕ}
+      → l ≡ backgroundTop line region a b c d
+      → m ≡ putTopObject l (bit 4 region) tag object
+      → color ≡ fadedColor w (line .mode) (bit 5 region) m
+      → color ≡ topColor line w region tag object a b c d
+  unfolding topColor
+  topColor-is tag object w l-is m-is color-is = color-is ∙ rw (m-is, l-is)
 
 -- ---- parts that calls give
 
@@ -136,38 +150,47 @@ unfolding regionWord
 regionWord-is at flags objects a-is b-is c-is d-is s-is e-is t-is f-is =
     rw (a-is, b-is, c-is, d-is, e-is, s-is, f-is, t-is)
 
-pub otherColor-is : (bottom effect : ℕ) {dark r : ℕ}
-    → dark ≡ cond (eqb effect 3) black bottom
-    → r ≡ cond (eqb effect 2) white dark
-    → r ≡ otherColor bottom effect
-otherColor-is bottom effect dark-is r-is = r-is ∙ ap (cond (eqb effect 2) white) dark-is
+module _ {w : Weights} (w≤ : Weighed w) (mode : ℕ) (permitted : Bool) where
+  pub fadeWeight-is : (tag : ℕ) {faded : Bool} {r : ℕ}
+      → faded ≡ isFaded mode permitted tag
+      → r ≡ cond faded (w .evy) 0
+      → (r ≡ fadeWeight w mode permitted tag) × (r ≤ 16)
+  unfolding fadeWeight
+  fadeWeight-is tag {faded} faded-is r-is = (r-is ∙ ap (λ t. cond t (w .evy) 0) faded-is, rw r-is (go faded))
+    where
+      go : (t : Bool) → cond t (w .evy) 0 ≤ 16
+      go true = w≤ .evy-bound
+      go false = omega arith
 
-pub pairColor-is : (w : Weights) (effect : ℕ) (p : LayerPair) {other mine theirs color : ℕ}
-    → other ≡ otherColor (p .bottom % 0x8000) effect
-    → mine ≡ topWeight w effect
-    → theirs ≡ otherWeight w effect
-    → color ≡ blendWith (p .top % 0x8000) other mine theirs
-    → color ≡ pairColor w effect p
-unfolding pairColor
-pairColor-is w effect p other-is mine-is theirs-is color-is = color-is ∙ rw (other-is, mine-is, theirs-is)
+  pub fadedColor-is : (top : Layer) {evy other color : ℕ}
+      → evy ≡ fadeWeight w mode permitted (top .tag)
+      → other ≡ fadeColor mode
+      → color ≡ blendWith (top .color) other (16 - evy) evy
+      → color ≡ fadedColor w mode permitted top
+  unfolding fadedColor
+  fadedColor-is top evy-is other-is color-is = color-is ∙ rw (evy-is, other-is)
+
+  pub pairColor-is : (p : LayerPair) {blended : Bool} {evy fade other mine theirs color : ℕ}
+      → blended ≡ isBlended mode permitted p
+      → evy ≡ fadeWeight w mode permitted (p .«top_tag»)
+      → fade ≡ fadeColor mode
+      → other ≡ cond blended (p .bottom) fade
+      → mine ≡ cond blended (w .eva) (16 - evy)
+      → theirs ≡ cond blended (w .evb) evy
+      → color ≡ blendWith (p .top) other mine theirs
+      → color ≡ pairColor w mode permitted p
+  unfolding pairColor
+  pairColor-is p blended-is evy-is fade-is other-is mine-is theirs-is color-is =
+      color-is ∙ rw (other-is, mine-is, theirs-is, blended-is, evy-is, fade-is)
 
 -- A weight that is one of two is at most 31 if both are.
-cond-bound : (test : Bool) {a b : ℕ} → a ≤ 31 → b ≤ 31 → cond test a b ≤ 31
-cond-bound true a≤ b≤ = a≤
-cond-bound false a≤ b≤ = b≤
+pub weight-bound : (test : Bool) (a b : ℕ) {r : ℕ} → r ≡ cond test a b → a ≤ 31 → b ≤ 31 → r ≤ 31
+weight-bound true a b r-is a≤ b≤ = rw r-is a≤
+weight-bound false a b r-is a≤ b≤ = rw r-is b≤
 
-module _ {w : Weights} (w≤ : Weighed w) (effect : ℕ) where
-  pub topWeight-is : {some r : ℕ} → some ≡ cond (eqb effect 1) (w .eva) (16 - w .evy) → r ≡ cond (eqb effect 0) 16 some
-      → (r ≡ topWeight w effect) × (r ≤ 31)
-  topWeight-is some-is r-is =
-      rw (r-is, some-is)
-      (refl, cond-bound (eqb effect 0) (omega arith) (cond-bound (eqb effect 1) (w≤ .eva-bound) (omega arith)))
-
-  pub otherWeight-is : {some r : ℕ} → some ≡ cond (eqb effect 1) (w .evb) (w .evy) → r ≡ cond (eqb effect 0) 0 some
-      → (r ≡ otherWeight w effect) × (r ≤ 31)
-  otherWeight-is some-is r-is =
-      rw (r-is, some-is)
-      (refl, cond-bound (eqb effect 0) (omega arith) (cond-bound (eqb effect 1) (w≤ .evb-bound) (omega (arith, w≤ .evy-bound))))
+-- The weights of a fade are.
+pub fade-bound : {evy : ℕ} → evy ≤ 16 → (16 - evy ≤ 31) × (evy ≤ 31)
+fade-bound evy≤ = (omega arith, omega arith)
 
 -- ---- a line
 
@@ -189,20 +212,28 @@ module _ (registers : List ℕ) (first second place : ℕ) where
   placeTag-none h = rw (le-ltb place 4 h)
 
 -- A line's layers, by the control that was read, and what was made of it.
-pub lineLayers-is : (palette registers at : List ℕ) {control : BlendControl} {p q r s o b back color mode : ℕ}
+pub lineLayers-is : (palette registers at : List ℕ) {control : BlendControl} {p q r s o b color mode : ℕ}
     → BlendControlOf (bldcnt registers) control
-    → b ≡ layerTag (control .target1 .0) (control .target2 .0) Backdrop 4
     → p ≡ placeTag registers (control .target1 .0) (control .target2 .0) (getD at 0 0)
     → q ≡ placeTag registers (control .target1 .0) (control .target2 .0) (getD at 1 0)
     → r ≡ placeTag registers (control .target1 .0) (control .target2 .0) (getD at 2 0)
     → s ≡ placeTag registers (control .target1 .0) (control .target2 .0) (getD at 3 0)
     → o ≡ layerTag (control .target1 .0) (control .target2 .0) Objects 0
     → color ≡ backdrop palette
-    → back ≡ layerWord b color
+    → b ≡ layerTag (control .target1 .0) (control .target2 .0) Backdrop 4
     → mode ≡ modeNumber (control .mode)
     → LineLayersOf palette registers at
-    (record { place0 = p; place1 = q; place2 = r; place3 = s; object = o; backdrop = back; mode = mode })
-lineLayers-is palette registers at control-is b-is p-is q-is r-is s-is o-is color-is back-is mode-is =
+    (record {
+      place0 = p;
+      place1 = q;
+      place2 = r;
+      place3 = s;
+      object = o;
+      backdrop = color;
+      «backdrop_tag» = b;
+      mode = mode;
+    })
+lineLayers-is palette registers at control-is p-is q-is r-is s-is o-is color-is b-is mode-is =
     let first = control-is .target1-is in
     let second = control-is .target2-is in
     record {
@@ -211,7 +242,8 @@ lineLayers-is palette registers at control-is b-is p-is q-is r-is s-is o-is colo
       place2-is = r-is ∙ ap₂ (λ t u. placeTag registers t u (getD at 2 0)) first second;
       place3-is = s-is ∙ ap₂ (λ t u. placeTag registers t u (getD at 3 0)) first second;
       object-is = o-is ∙ ap₂ (λ t u. layerTag t u Objects 0) first second;
-      backdrop-is = back-is ∙ ap₂ layerWord (b-is ∙ ap₂ (λ t u. layerTag t u Backdrop 4) first second) color-is;
+      backdrop-is = color-is;
+      backdrop-tag-is = b-is ∙ ap₂ (λ t u. layerTag t u Backdrop 4) first second;
       mode-is = mode-is ∙ ap modeNumber (control-is .mode-is);
     }
 
@@ -238,14 +270,15 @@ weights-are reading registers alpha-is a-is b-is evy-is y-is small =
       },
     )
 
--- A column's pixel, by its entry and its colour.
-pub pixel-is : (line : LineLayers) (w : Weights) (region : ℕ) (entries : List ℕ) (column a b c d : ℕ) {e : Entry} {color pixel : ℕ}
-    → e ≡ cellAt entryCells entries column
-    → color ≡ columnColor line w region e a b c d
-    → pixel ≡ toRgb24 color
-    → pixel ≡ toRgb24 (columnColor line w region (cellAt entryCells entries column) a b c d)
-pixel-is line w region entries column a b c d e-is color-is shown =
-    shown ∙ ap toRgb24 (color-is ∙ ap (λ e. columnColor line w region e a b c d) e-is)
+-- A column's colour, by what a call made of its rows.
+pub atColumn-is : (color : ℕ → ℕ → ℕ → ℕ → ℕ → ℕ → ℕ → ℕ) (regions tags objects : List ℕ)
+    (line0 line1 line2 line3 : List Rgb15) (column : ℕ) (c : Rgb15)
+    → c .0
+    ≡ color (getD regions column 0) (getD tags column 0) (getD objects column 0)
+    (lineColor line0 column) (lineColor line1 column) (lineColor line2 column) (lineColor line3 column)
+    → c ≡ atColumn color regions tags objects line0 line1 line2 line3 column
+unfolding atColumn
+atColumn-is color regions tags objects line0 line1 line2 line3 column c e = ap rgb e
 
 -- Where a column's word and its colour lie in their rows.
 pub words-fit : {column : ℕ} → column < 240 → Fits w64 (column * 4)

@@ -1,12 +1,11 @@
-// The layers of a column (gpu/layer.rs), each as one word, which a loop over columns chooses between without branches: the
-// colour in bits 0-14, bit 15 a first target, bit 16 a second target, bit 17 a semi-transparent object, then the priority.
+// The layers of a column (gpu/layer.rs), each as two halfwords, which a loop over columns chooses between without branches.
 ghost use mathlib.Core.Path.{_≡_};
 ghost use mathlib.Core.Bool.{cond};
 ghost use Prim.Native.Nat.{_≤_};
 ghost use lib.ListN.{length};
 ghost use Rattle.memory.specs.Sizes.{paletteRamSize, registersSize};
-ghost use Rattle.sfx.specs.Words.{bitOf, layerTag, layerWord, modeNumber, placeTag, LineLayersOf};
-ghost use Rattle.sfx.specs.Words.{objectWord, putBackground, placeWord, putObject};
+ghost use Rattle.sfx.specs.Words.{bitOf, layerTag, modeNumber, objectTag, placeTag, LineLayersOf};
+ghost use Rattle.sfx.specs.Words.{shows, putTop, putBackground, putTopObject, putObject};
 use crate::order::NO_BACKGROUND;
 use memory::read_backdrop;
 use obj::Entry;
@@ -17,19 +16,29 @@ use regs::iodev::read_bgcnt;
 use regs::iodev::read_bldcnt;
 use rgb15::Rgb15;
 
-// The parts of a layer's word above its colour.
-pub(crate) const FIRST_TARGET: u32 = 0x8000;
+// The parts of a layer's tag.
+pub(crate) const FIRST_TARGET: u16 = 0x1;
 
-pub(crate) const SECOND_TARGET: u32 = 0x1_0000;
+pub(crate) const SECOND_TARGET: u16 = 0x2;
 
-pub(crate) const SEMI_OBJECT: u32 = 0x2_0000;
+pub(crate) const SEMI_OBJECT: u16 = 0x4;
 
-const PRIORITY: u32 = 0x4_0000;
+const PRIORITY: u16 = 0x8;
 
-// The top and the bottom layer of a column.
+// A layer of a column. In the tag, bit 0 is a first target, bit 1 a second target, bit 2 a semi-transparent object, and the
+// priority stands from bit 3 on.
+pub(crate) struct Layer {
+    pub color: u16,
+    pub tag: u16,
+}
+
+// The top and the bottom layer of a column, the colour and the tag of each. No layer is passed on or chosen whole: the
+// compiler would take its two halfwords for one word, of which a vector holds half as many.
 pub(crate) struct LayerPair {
-    pub top: u32,
-    pub bottom: u32,
+    pub top: u16,
+    pub top_tag: u16,
+    pub bottom: u16,
+    pub bottom_tag: u16,
 }
 
 // What a line's layers have in common at every column: the tag of each place's background, that of objects, the backdrop,
@@ -40,12 +49,13 @@ pub(crate) struct LineLayers {
     pub place2: u16,
     pub place3: u16,
     pub object: u16,
-    pub backdrop: u32,
-    pub mode: u32,
+    pub backdrop: u16,
+    pub backdrop_tag: u16,
+    pub mode: u16,
 }
 
 // A truth value as a bit.
-pub(crate) fn bit_of(set: bool) -> u32
+pub(crate) fn bit_of(set: bool) -> u16
     ensures { λ r. ⌜ (r ≡ bitOf set) × (r ≤ 1) ⌝ }
 {
     if set { 1 } else { 0 }
@@ -53,7 +63,7 @@ pub(crate) fn bit_of(set: bool) -> u32
 
 // The first number where the test holds, else the second. Per column every choice is made by this function, of numbers that
 // are there already: so a loop over columns has no other branches, and runs on several columns at once.
-pub(crate) fn choose(test: bool, then: u32, other: u32) -> u32
+pub(crate) fn choose(test: bool, then: u16, other: u16) -> u16
     ensures { λ r. ⌜ r ≡ cond test then other ⌝ }
 {
     if test { then } else { other }
@@ -66,18 +76,11 @@ fn layer_tag(control: BlendControl, kind: RenderLayerKind, priority: u16) -> u16
 {
     let first = bit_of(control.target1.contains_render_layer(kind));
     let second = bit_of(control.target2.contains_render_layer(kind));
-    (first + 2 * second) as u16 + 8 * priority
-}
-
-// A layer by its tag and its colour.
-fn layer_word(tag: u16, color: Rgb15) -> u32
-    ensures { λ r. ⌜ r ≡ layerWord tag (color .0) ⌝ }
-{
-    (color.0 % 0x8000) as u32 + 0x8000 * (tag as u32)
+    first + 2 * second + 8 * priority
 }
 
 // The number of a control's effect.
-fn mode_number(mode: BlendMode) -> u32
+fn mode_number(mode: BlendMode) -> u16
     ensures { λ r. ⌜ r ≡ modeNumber mode ⌝ }
 {
     match mode {
@@ -108,60 +111,83 @@ pub(crate) fn line_layers(palette: &[u8], registers: &[u8], places: [usize; 4]) 
 {
     let control = read_bldcnt(registers);
     let mode = control.mode;
-    let backdrop = layer_tag(control, RenderLayerKind::Backdrop, 4);
     LineLayers {
         place0: place_tag(registers, control, places[0]),
         place1: place_tag(registers, control, places[1]),
         place2: place_tag(registers, control, places[2]),
         place3: place_tag(registers, control, places[3]),
         object: layer_tag(control, RenderLayerKind::Objects, 0),
-        backdrop: layer_word(backdrop, read_backdrop(palette)),
+        backdrop: read_backdrop(palette).0,
+        backdrop_tag: layer_tag(control, RenderLayerKind::Backdrop, 4),
         mode: mode_number(mode),
     }
 }
 
-// An object's layer, by the tag that all objects share.
-fn object_word(tag: u16, e: Entry) -> u32
-    ensures { λ r. ⌜ r ≡ objectWord tag e ⌝ }
+// An object's tag, by the one that all objects share.
+pub(crate) fn object_tag(tag: u16, e: Entry) -> u16
+    requires { ⌜ tag ≤ 3 ⌝ }
+    ensures { λ r. ⌜ r ≡ objectTag tag e ⌝ }
 {
-    let own = tag as u32 + 4 * (e.marks % 2) as u32 + 8 * (e.priority as u32);
-    (e.color.0 % 0x8000) as u32 + 0x8000 * own
+    tag + 4 * (e.marks % 2) as u16 + 8 * (e.priority as u16)
 }
 
-// A background's pixel over what is behind it, if it is permitted and opaque.
-pub(crate) fn put_background(
-    behind: LayerPair,
-    permitted: bool,
-    tag: u16,
-    color: Rgb15,
-) -> LayerPair
-    ensures { λ r. ⌜ r ≡ putBackground behind permitted tag (color .0) ⌝ }
+// Whether a pixel is permitted and opaque.
+fn shows(permitted: bool, color: u16) -> bool
+    ensures { λ t. ⌜ t ≡ shows permitted color ⌝ }
 {
-    let counts = permitted & !color.is_transparent();
-    let word = layer_word(tag, color);
-    LayerPair {
-        top: choose(counts, word, behind.top),
-        bottom: choose(counts, behind.top, behind.bottom),
+    permitted & !Rgb15(color).is_transparent()
+}
+
+// A background's pixel over what is behind it, if it shows.
+pub(crate) fn put_top(behind: Layer, permitted: bool, tag: u16, color: u16) -> Layer
+    ensures { λ r. ⌜ r ≡ putTop behind permitted tag color ⌝ }
+{
+    let over = shows(permitted, color);
+    Layer {
+        color: choose(over, color, behind.color),
+        tag: choose(over, tag, behind.tag),
     }
 }
 
-// An object that counts on top if its priority is at most the top's, else second if at most the bottom's.
-fn place_object(object: u32, counts: bool, layers: LayerPair) -> LayerPair
-    ensures { λ r. ⌜ r ≡ cond counts (placeWord object layers) layers ⌝ }
+// The same of two layers: the top that it covers becomes the bottom.
+pub(crate) fn put_background(behind: LayerPair, permitted: bool, tag: u16, color: u16) -> LayerPair
+    ensures { λ r. ⌜ r ≡ putBackground behind permitted tag color ⌝ }
 {
-    let first = counts & (object / PRIORITY <= layers.top / PRIORITY);
-    let second = counts & (object / PRIORITY <= layers.bottom / PRIORITY);
-    let below = choose(second, object, layers.bottom);
+    let over = shows(permitted, color);
     LayerPair {
-        top: choose(first, object, layers.top),
-        bottom: choose(first, layers.top, below),
+        top: choose(over, color, behind.top),
+        top_tag: choose(over, tag, behind.top_tag),
+        bottom: choose(over, behind.top, behind.bottom),
+        bottom_tag: choose(over, behind.top_tag, behind.bottom_tag),
     }
 }
 
-// An object's pixel put in its place, if it is permitted and opaque.
-pub(crate) fn put_object(layers: LayerPair, permitted: bool, tag: u16, e: Entry) -> LayerPair
-    ensures { λ r. ⌜ r ≡ putObject layers permitted tag e ⌝ }
+// An object's pixel over what is behind it, if it shows and its priority is at most that of the layer behind it.
+pub(crate) fn put_top_object(behind: Layer, permitted: bool, tag: u16, color: u16) -> Layer
+    ensures { λ r. ⌜ r ≡ putTopObject behind permitted tag color ⌝ }
 {
-    let counts = permitted & !e.color.is_transparent();
-    place_object(object_word(tag, e), counts, layers)
+    let over = shows(permitted, color) & (tag / PRIORITY <= behind.tag / PRIORITY);
+    Layer {
+        color: choose(over, color, behind.color),
+        tag: choose(over, tag, behind.tag),
+    }
+}
+
+// The same of two layers: an object that isn't on top is second if its priority is at most the bottom's.
+pub(crate) fn put_object(behind: LayerPair, permitted: bool, tag: u16, color: u16) -> LayerPair
+    ensures { λ r. ⌜ r ≡ putObject behind permitted tag color ⌝ }
+{
+    let counts = shows(permitted, color);
+    let first = counts & (tag / PRIORITY <= behind.top_tag / PRIORITY);
+    let second = counts & (tag / PRIORITY <= behind.bottom_tag / PRIORITY);
+    LayerPair {
+        top: choose(first, color, behind.top),
+        top_tag: choose(first, tag, behind.top_tag),
+        bottom: choose(first, behind.top, choose(second, color, behind.bottom)),
+        bottom_tag: choose(
+            first,
+            behind.top_tag,
+            choose(second, tag, behind.bottom_tag),
+        ),
+    }
 }

@@ -1,9 +1,9 @@
-// Composing a line (gpu/sfx.rs).
+// Composing a line (gpu/sfx.rs). The loops over columns work on halfwords, of which a vector holds eight.
 ghost use mathlib.Core.Path.{_≡_};
-ghost use mathlib.Core.Bool.{cond};
-ghost use Prim.Native.Nat.{_≤_};
+ghost use Prim.Native.Nat.{_/_, _%_, _≤_};
 ghost use lib.ListN.{length, getD};
 ghost use Rattle.rgb15.specs.Colour.{toRgb24};
+ghost use Rattle.rows.specs.Below.{tally};
 ghost use Rattle.rows.specs.Cells.{cellAt, rowOf};
 ghost use Rattle.rows.specs.Tab.{tab};
 ghost use Rattle.rows.specs.Words.{wordCells};
@@ -14,24 +14,27 @@ ghost use Rattle.regs.specs.Reading.{counted};
 ghost use Rattle.obj.specs.Entry.{entriesSize, entryCells};
 ghost use Rattle.sfx.specs.Pixel.{pixel};
 ghost use Rattle.sfx.specs.Places.{lineColor, placedLayers};
-ghost use Rattle.sfx.specs.Words.{controlNumber, effectNumber, backgroundPair, columnColor};
-ghost use Rattle.sfx.specs.Words.{WeightsOf, Weighed, topWeight, otherWeight, otherColor, pairColor};
+ghost use Rattle.sfx.specs.Words.{Unmarked, objectTag, backgroundPair, backgroundTop, columnColor, topColor, atColumn};
+ghost use Rattle.sfx.specs.Words.{WeightsOf, Weighed, isBlended, isFaded, fadeColor, fadeWeight, fadedColor, pairColor};
 
 mod layer;
 mod order;
 mod region;
 
 use layer::FIRST_TARGET;
+use layer::Layer;
 use layer::LayerPair;
 use layer::LineLayers;
 use layer::SECOND_TARGET;
 use layer::SEMI_OBJECT;
 use layer::choose;
 use layer::line_layers;
+use layer::object_tag;
 use layer::put_background;
 use layer::put_object;
+use layer::put_top;
+use layer::put_top_object;
 use memory::DISPLAY_WIDTH;
-use obj::Entry;
 use obj::entry_at;
 pub use order::sort_backgrounds;
 use region::line_regions;
@@ -48,29 +51,11 @@ struct Weights {
     evy: u16,
 }
 
-// The control's effect: a blend must have a 2nd target.
-fn control_effect(mode: u32, second: bool) -> u32
-    ensures { λ r. ⌜ r ≡ controlNumber mode second ⌝ }
-{
-    choose((mode == 1) & !second, 0, mode)
-}
-
-// The number of the effect on two layers.
-fn effect_of(mode: u32, permitted: bool, layers: LayerPair) -> u32
-    ensures { λ r. ⌜ r ≡ effectNumber mode permitted layers ⌝ }
-{
-    let second = layers.bottom / SECOND_TARGET % 2 == 1;
-    let semi = layers.top / SEMI_OBJECT % 2 == 1;
-    let first = layers.top / FIRST_TARGET % 2 == 1;
-    let control = choose(permitted & first, control_effect(mode, second), 0);
-    choose(semi & second, 1, control)
-}
-
 // The layers of a column's backgrounds, put from the last place to the first: the first two that count, the backdrop
 // filling in.
 fn background_pair(
     line: LineLayers,
-    region: u32,
+    region: u16,
     color0: Rgb15,
     color1: Rgb15,
     color2: Rgb15,
@@ -80,12 +65,35 @@ fn background_pair(
 {
     let fourth = LayerPair {
         top: line.backdrop,
+        top_tag: line.backdrop_tag,
         bottom: line.backdrop,
+        bottom_tag: line.backdrop_tag,
     };
-    let third = put_background(fourth, region / 0x8 % 2 == 1, line.place3, color3);
-    let second = put_background(third, region / 0x4 % 2 == 1, line.place2, color2);
-    let first = put_background(second, region / 0x2 % 2 == 1, line.place1, color1);
-    put_background(first, region / 0x1 % 2 == 1, line.place0, color0)
+    let third = put_background(fourth, region / 0x8 % 2 == 1, line.place3, color3.0);
+    let second = put_background(third, region / 0x4 % 2 == 1, line.place2, color2.0);
+    let first = put_background(second, region / 0x2 % 2 == 1, line.place1, color1.0);
+    put_background(first, region / 0x1 % 2 == 1, line.place0, color0.0)
+}
+
+// The top one of them alone.
+fn background_top(
+    line: LineLayers,
+    region: u16,
+    color0: Rgb15,
+    color1: Rgb15,
+    color2: Rgb15,
+    color3: Rgb15,
+) -> Layer
+    ensures { λ r. ⌜ r ≡ backgroundTop line region (color0 .0) (color1 .0) (color2 .0) (color3 .0) ⌝ }
+{
+    let fourth = Layer {
+        color: line.backdrop,
+        tag: line.backdrop_tag,
+    };
+    let third = put_top(fourth, region / 0x8 % 2 == 1, line.place3, color3.0);
+    let second = put_top(third, region / 0x4 % 2 == 1, line.place2, color2.0);
+    let first = put_top(second, region / 0x2 % 2 == 1, line.place1, color1.0);
+    put_top(first, region / 0x1 % 2 == 1, line.place0, color0.0)
 }
 
 // A line's weights, as the reading counts them.
@@ -101,109 +109,262 @@ fn line_weights(registers: &[u8], reading: Reading) -> Weights
     }
 }
 
-// The first weight or colour where the test holds, else the second, as `choose` has it.
-fn choose_half(test: bool, then: u16, other: u16) -> u16
-    ensures { λ r. ⌜ r ≡ cond test then other ⌝ }
+// Whether two layers are blended: the bottom must be a second target, and the top a semi-transparent object, or a first
+// target where effects are permitted and the control's is the blend.
+fn is_blended(mode: u16, permitted: bool, layers: LayerPair) -> bool
+    ensures { λ t. ⌜ t ≡ isBlended mode permitted layers ⌝ }
 {
-    if test { then } else { other }
+    let second = layers.bottom_tag / SECOND_TARGET % 2 == 1;
+    let semi = layers.top_tag / SEMI_OBJECT % 2 == 1;
+    let first = layers.top_tag / FIRST_TARGET % 2 == 1;
+    second & (semi | (permitted & first & (mode == 1)))
 }
 
-// The weight of the top.
-fn top_weight(weights: Weights, effect: u32) -> u16
+// Whether a top that isn't blended is made white or black.
+fn is_faded(mode: u16, permitted: bool, tag: u16) -> bool
+    ensures { λ t. ⌜ t ≡ isFaded mode permitted tag ⌝ }
+{
+    let first = tag / FIRST_TARGET % 2 == 1;
+    permitted & first & (2 <= mode)
+}
+
+// The colour that such a top is blended with.
+fn fade_color(mode: u16) -> Rgb15
+    ensures { λ c. ⌜ c .0 ≡ fadeColor mode ⌝ }
+{
+    Rgb15(choose(mode == 2, Rgb15::WHITE.0, Rgb15::BLACK.0))
+}
+
+// The weight of that colour; with 0 the top shows as it is.
+fn fade_weight(weights: Weights, mode: u16, permitted: bool, tag: u16) -> u16
     requires { ⌜ Weighed weights ⌝ }
-    ensures { λ r. ⌜ (r ≡ topWeight weights effect) × (r ≤ 31) ⌝ }
+    ensures { λ r. ⌜ (r ≡ fadeWeight weights mode permitted tag) × (r ≤ 16) ⌝ }
 {
-    let some = choose_half(effect == 1, weights.eva, 16 - weights.evy);
-    choose_half(effect == 0, 16, some)
+    choose(is_faded(mode, permitted, tag), weights.evy, 0)
 }
 
-// The weight of the other colour.
-fn other_weight(weights: Weights, effect: u32) -> u16
+// The Rust's do_brighten and do_darken, and no effect.
+fn do_fade(weights: Weights, mode: u16, permitted: bool, top: Layer) -> Rgb15
     requires { ⌜ Weighed weights ⌝ }
-    ensures { λ r. ⌜ (r ≡ otherWeight weights effect) × (r ≤ 31) ⌝ }
+    ensures { λ c. ⌜ c .0 ≡ fadedColor weights mode permitted top ⌝ }
 {
-    let some = choose_half(effect == 1, weights.evb, weights.evy);
-    choose_half(effect == 0, 0, some)
+    let evy = fade_weight(weights, mode, permitted, top.tag);
+    Rgb15(top.color).blend_with(fade_color(mode), 16 - evy, evy)
 }
 
-// The colour that the top is blended with.
-fn other_color(bottom: Rgb15, effect: u32) -> Rgb15
-    ensures { λ c. ⌜ c .0 ≡ otherColor (bottom .0) effect ⌝ }
-{
-    let dark = choose_half(effect == 3, Rgb15::BLACK.0, bottom.0);
-    Rgb15(choose_half(effect == 2, Rgb15::WHITE.0, dark))
-}
-
-// The Rust's do_alpha, do_brighten and do_darken, and no effect: one blend for all, of weights 16 and 0 for none.
-fn do_effect(weights: Weights, effect: u32, layers: LayerPair) -> Rgb15
+// These and the Rust's do_alpha: one blend for all.
+fn do_effect(weights: Weights, mode: u16, permitted: bool, layers: LayerPair) -> Rgb15
     requires { ⌜ Weighed weights ⌝ }
-    ensures { λ c. ⌜ c .0 ≡ pairColor weights effect layers ⌝ }
+    ensures { λ c. ⌜ c .0 ≡ pairColor weights mode permitted layers ⌝ }
 {
-    let top = Rgb15((layers.top % 0x8000) as u16);
-    let bottom = Rgb15((layers.bottom % 0x8000) as u16);
-    let other = other_color(bottom, effect);
-    top.blend_with(
-        other,
-        top_weight(weights, effect),
-        other_weight(weights, effect),
-    )
+    let blended = is_blended(mode, permitted, layers);
+    let evy = fade_weight(weights, mode, permitted, layers.top_tag);
+    let other = choose(blended, layers.bottom, fade_color(mode).0);
+    let my_weight = choose(blended, weights.eva, 16 - evy);
+    let other_weight = choose(blended, weights.evb, evy);
+    Rgb15(layers.top).blend_with(Rgb15(other), my_weight, other_weight)
 }
 
 // The colour of a column.
 fn finalize_pixel(
     line: LineLayers,
     weights: Weights,
-    region: u32,
-    e: Entry,
+    region: u16,
+    tag: u16,
+    object: u16,
     color0: Rgb15,
     color1: Rgb15,
     color2: Rgb15,
     color3: Rgb15,
 ) -> Rgb15
     requires { ⌜ Weighed weights ⌝ }
-    ensures { λ r. ⌜ r .0 ≡ columnColor line weights region e (color0 .0) (color1 .0) (color2 .0) (color3 .0) ⌝ }
+    ensures { λ r. ⌜ r .0 ≡ columnColor line weights region tag object (color0 .0) (color1 .0) (color2 .0) (color3 .0) ⌝ }
 {
     let backgrounds = background_pair(line, region, color0, color1, color2, color3);
-    let layers = put_object(backgrounds, region / 0x10 % 2 == 1, line.object, e);
-    let effect = effect_of(line.mode, region / 0x20 % 2 == 1, layers);
-    do_effect(weights, effect, layers)
+    let layers = put_object(backgrounds, region / 0x10 % 2 == 1, tag, object);
+    do_effect(weights, line.mode, region / 0x20 % 2 == 1, layers)
 }
 
-// The pixels of a line.
-fn finalize_row(
-    entries: &[u8],
+// The colour of a column whose layers aren't blended, by the top alone.
+fn top_pixel(
     line: LineLayers,
     weights: Weights,
-    regions: [u32; 240],
+    region: u16,
+    tag: u16,
+    object: u16,
+    color0: Rgb15,
+    color1: Rgb15,
+    color2: Rgb15,
+    color3: Rgb15,
+) -> Rgb15
+    requires { ⌜ Weighed weights ⌝ }
+    ensures { λ r. ⌜ r .0 ≡ topColor line weights region tag object (color0 .0) (color1 .0) (color2 .0) (color3 .0) ⌝ }
+{
+    let background = background_top(line, region, color0, color1, color2, color3);
+    let top = put_top_object(background, region / 0x10 % 2 == 1, tag, object);
+    do_fade(weights, line.mode, region / 0x20 % 2 == 1, top)
+}
+
+// The colours of a line's entries.
+fn object_colors(entries: &[u8]) -> [u16; 240]
+    requires { ⌜ length (now entries) ≡ entriesSize ⌝ }
+    ensures { λ r. ⌜ r ≡ tab (λ column. cellAt entryCells (now (entries .entry)) column .color .0) 240 ⌝ }
+{
+    let mut colors = [0u16; 240];
+    let mut column: usize = 0;
+    while column < DISPLAY_WIDTH {
+        colors[column] = entry_at(entries, column).color.0;
+        column += 1;
+    }
+    colors
+}
+
+// The tags of a line's entries as layers.
+fn object_tags(entries: &[u8], tag: u16) -> [u16; 240]
+    requires { ⌜ (length (now entries) ≡ entriesSize) × (tag ≤ 3) ⌝ }
+    ensures { λ r. ⌜ r ≡ tab (λ column. objectTag tag (cellAt entryCells (now (entries .entry)) column)) 240 ⌝ }
+{
+    let mut tags = [0u16; 240];
+    let mut column: usize = 0;
+    while column < DISPLAY_WIDTH {
+        tags[column] = object_tag(tag, entry_at(entries, column));
+        column += 1;
+    }
+    tags
+}
+
+// The colours of a line.
+fn finalize_row(
+    line: LineLayers,
+    weights: Weights,
+    regions: [u16; 240],
+    tags: [u16; 240],
+    objects: [u16; 240],
     line0: [Rgb15; 240],
     line1: [Rgb15; 240],
     line2: [Rgb15; 240],
     line3: [Rgb15; 240],
-) -> [u32; 240]
-    requires { ⌜ (length (now entries) ≡ entriesSize) × Weighed weights ⌝ }
-    ensures { λ r.
-        ⌜ r
-        ≡ tab
-        (λ column.
-        toRgb24
-        (columnColor line weights (getD regions column 0) (cellAt entryCells (now (entries .entry)) column)
-        (lineColor line0 column) (lineColor line1 column) (lineColor line2 column) (lineColor line3 column)))
-        240 ⌝ }
+) -> [Rgb15; 240]
+    requires { ⌜ Weighed weights ⌝ }
+    ensures { λ r. ⌜ r ≡ tab (atColumn (columnColor line weights) regions tags objects line0 line1 line2 line3) 240 ⌝ }
 {
-    let mut pixels = [0u32; 240];
+    let mut colors = [Rgb15::BLACK; 240];
     let mut column: usize = 0;
     while column < DISPLAY_WIDTH {
-        let color = finalize_pixel(
+        colors[column] = finalize_pixel(
             line,
             weights,
             regions[column],
-            entry_at(entries, column),
+            tags[column],
+            objects[column],
             line0[column],
             line1[column],
             line2[column],
             line3[column],
         );
-        pixels[column] = color.to_rgb24();
+        column += 1;
+    }
+    colors
+}
+
+// The colours of a line on which no layers are blended.
+fn top_row(
+    line: LineLayers,
+    weights: Weights,
+    regions: [u16; 240],
+    tags: [u16; 240],
+    objects: [u16; 240],
+    line0: [Rgb15; 240],
+    line1: [Rgb15; 240],
+    line2: [Rgb15; 240],
+    line3: [Rgb15; 240],
+) -> [Rgb15; 240]
+    requires { ⌜ Weighed weights ⌝ }
+    ensures { λ r. ⌜ r ≡ tab (atColumn (topColor line weights) regions tags objects line0 line1 line2 line3) 240 ⌝ }
+{
+    let mut colors = [Rgb15::BLACK; 240];
+    let mut column: usize = 0;
+    while column < DISPLAY_WIDTH {
+        colors[column] = top_pixel(
+            line,
+            weights,
+            regions[column],
+            tags[column],
+            objects[column],
+            line0[column],
+            line1[column],
+            line2[column],
+            line3[column],
+        );
+        column += 1;
+    }
+    colors
+}
+
+// How many of a line's entries are semi-transparent.
+fn count_semi(tags: [u16; 240]) -> u16
+    ensures { λ r. ⌜ r ≡ tally (λ column. getD tags column 0 / 4 % 2) 240 ⌝ }
+{
+    let mut count: u16 = 0;
+    let mut column: usize = 0;
+    while column < DISPLAY_WIDTH {
+        count += tags[column] / SEMI_OBJECT % 2;
+        column += 1;
+    }
+    count
+}
+
+// The colours of a line, by the top alone where that is enough.
+fn compose_row(
+    line: LineLayers,
+    weights: Weights,
+    regions: [u16; 240],
+    tags: [u16; 240],
+    objects: [u16; 240],
+    line0: [Rgb15; 240],
+    line1: [Rgb15; 240],
+    line2: [Rgb15; 240],
+    line3: [Rgb15; 240],
+) -> [Rgb15; 240]
+    requires { ⌜ Weighed weights × Unmarked line ⌝ }
+    ensures { λ r. ⌜ r ≡ tab (atColumn (columnColor line weights) regions tags objects line0 line1 line2 line3) 240 ⌝ }
+{
+    let semi = count_semi(tags);
+    if (line.mode != 1) & (semi == 0) {
+        top_row(
+            line,
+            weights,
+            regions,
+            tags,
+            objects,
+            line0,
+            line1,
+            line2,
+            line3,
+        )
+    } else {
+        finalize_row(
+            line,
+            weights,
+            regions,
+            tags,
+            objects,
+            line0,
+            line1,
+            line2,
+            line3,
+        )
+    }
+}
+
+// The 24-bit forms of a line's colours.
+fn wide_row(colors: [Rgb15; 240]) -> [u32; 240]
+    ensures { λ r. ⌜ r ≡ tab (λ column. toRgb24 (lineColor colors column)) 240 ⌝ }
+{
+    let mut pixels = [0u32; 240];
+    let mut column: usize = 0;
+    while column < DISPLAY_WIDTH {
+        pixels[column] = colors[column].to_rgb24();
         column += 1;
     }
     pixels
@@ -253,15 +414,18 @@ pub fn finalize_scanline(
     let regions = line_regions(entries, registers, reading, line, places);
     let layers = line_layers(palette, registers, places);
     let weights = line_weights(registers, reading);
-    let pixels = finalize_row(
-        entries,
+    let tags = object_tags(entries, layers.object);
+    let objects = object_colors(entries);
+    let colors = compose_row(
         layers,
         weights,
         regions,
+        tags,
+        objects,
         line0,
         line1,
         line2,
         line3,
     );
-    write_row(output, pixels);
+    write_row(output, wide_row(colors));
 }

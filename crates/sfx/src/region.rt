@@ -19,7 +19,7 @@ use windows::region_row;
 use windows::window_flags;
 
 // 1 if flags permit the background of a place and it has one, else 0.
-fn place_bit(flags: WindowFlags, place: usize) -> u32
+fn place_bit(flags: WindowFlags, place: usize) -> u16
     ensures { λ r. ⌜ (r ≡ bitOf (permitsPlace (flags .0) place)) × (r ≤ 1) ⌝ }
 {
     if place < NO_BACKGROUND {
@@ -30,7 +30,7 @@ fn place_bit(flags: WindowFlags, place: usize) -> u32
 }
 
 // What a region permits, as a word: the background of each place, objects, effects.
-fn region_word(flags: WindowFlags, objects: bool, places: [usize; 4]) -> u32
+fn region_word(flags: WindowFlags, objects: bool, places: [usize; 4]) -> u16
     ensures { λ r. ⌜ r ≡ regionWord objects places (flags .0) ⌝ }
 {
     place_bit(flags, places[0])
@@ -42,7 +42,7 @@ fn region_word(flags: WindowFlags, objects: bool, places: [usize; 4]) -> u32
 }
 
 // The word of a region.
-fn region_of(registers: &[u8], kind: WindowType, objects: bool, places: [usize; 4]) -> u32
+fn region_of(registers: &[u8], kind: WindowType, objects: bool, places: [usize; 4]) -> u16
     requires { ⌜ length (now registers) ≡ registersSize ⌝ }
     ensures { λ r. ⌜ r ≡ regionWord objects places (permitted (now (registers .entry)) kind) ⌝ }
 {
@@ -56,7 +56,7 @@ pub(crate) fn line_regions(
     reading: Reading,
     line: usize,
     places: [usize; 4],
-) -> [u32; 240]
+) -> [u16; 240]
     requires { ⌜ (length (now entries) ≡ entriesSize) × (length (now registers) ≡ registersSize) ⌝ }
     ensures { λ r. ⌜ r ≡ tab (columnRegion reading (now (registers .entry)) (now (entries .entry)) places line) 240 ⌝ }
 {

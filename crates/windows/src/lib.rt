@@ -35,11 +35,11 @@ pub enum WindowType {
 
 // A word for each region; what the words say is the caller's.
 pub struct RegionWords {
-    pub win0: u32,
-    pub win1: u32,
-    pub winobj: u32,
-    pub winout: u32,
-    pub winnone: u32,
+    pub win0: u16,
+    pub win1: u16,
+    pub winobj: u16,
+    pub winout: u16,
+    pub winnone: u16,
 }
 
 // The columns from left on and before right.
@@ -140,7 +140,7 @@ fn claim(occupied: [u64; 4], columns: Columns) -> [u64; 4]
 }
 
 // The row with columns set to a word.
-fn paint(row: [u32; 240], columns: Columns, word: u32) -> [u32; 240]
+fn paint(row: [u16; 240], columns: Columns, word: u16) -> [u16; 240]
     requires { ⌜ Spanned columns ⌝ }
     ensures { λ r. ⌜ r ≡ mapTab (only (holds columns) (λ _ _. word)) 240 0 row ⌝ }
 {
@@ -155,7 +155,7 @@ fn paint(row: [u32; 240], columns: Columns, word: u32) -> [u32; 240]
 }
 
 // The word of a column in the object window or outside, by the entry's mark.
-fn unclaimed_word(entries: &[u8], x: usize, winobj: u32, winout: u32) -> u32
+fn unclaimed_word(entries: &[u8], x: usize, winobj: u16, winout: u16) -> u16
     requires { ⌜ (length (now entries) ≡ entriesSize) × (x < 240) ⌝ }
     ensures { λ r. ⌜ r ≡ cond (windowMark (cellAt entryCells (now (entries .entry)) x)) winobj winout ⌝ }
 {
@@ -168,7 +168,7 @@ fn unclaimed_word(entries: &[u8], x: usize, winobj: u32, winout: u32) -> u32
 }
 
 // The row of a line on which windows 0 and 1 claim nothing.
-fn unclaimed_row(entries: &[u8], obj_window: bool, winobj: u32, winout: u32) -> [u32; 240]
+fn unclaimed_row(entries: &[u8], obj_window: bool, winobj: u16, winout: u16) -> [u16; 240]
     requires { ⌜ length (now entries) ≡ entriesSize ⌝ }
     ensures { λ r.
         ⌜ r ≡ tab (λ x. cond («obj_window» && windowMark (cellAt entryCells (now (entries .entry)) x)) winobj winout) 240 ⌝ }
@@ -193,7 +193,7 @@ fn windowed_row(
     win0: Columns,
     win1: Columns,
     words: RegionWords,
-) -> [u32; 240]
+) -> [u16; 240]
     requires { ⌜ (length (now entries) ≡ entriesSize) × Spanned win0 × Spanned win1 ⌝ }
     ensures { λ r. ⌜ r ≡ walkedRow (now (entries .entry)) «obj_window» win0 win1 words ⌝ }
 {
@@ -219,7 +219,7 @@ pub fn region_row(
     reading: Reading,
     line: usize,
     words: RegionWords,
-) -> [u32; 240]
+) -> [u16; 240]
     requires { ⌜ (length (now entries) ≡ entriesSize) × (length (now registers) ≡ registersSize) ⌝ }
     ensures { λ r. ⌜ r ≡ regionRow reading (now (registers .entry)) (now (entries .entry)) line words ⌝ }
 {

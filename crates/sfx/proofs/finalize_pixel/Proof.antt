@@ -1,4 +1,4 @@
--- sfx::finalize_pixel meets its contract: its four calls are the steps of columnColor.
+-- sfx::finalize_pixel meets its contract: its three calls are the steps of columnColor.
 -- Assumes nothing.
 use borrow.Author.Needs.{needs}
 use Rattle.sfx.proofs.Words.{columnColor-is}
@@ -12,7 +12,6 @@ pub finalize-pixel-spec : {M : Type 1} → statement M
 finalize-pixel-spec =
     tie.close
     (tie.spec
-    (search needs)
     (search needs)
     (search needs)
     (search needs)

@@ -2,20 +2,35 @@
 -- Assumes nothing.
 use borrow.Author.Needs.{needs}
 use Rattle.sfx.proofs.Columns.{scanline-is}
+use Rattle.sfx.proofs.Tops.{unmarked, object-bound}
 use Rattle.sfx.proofs.finalize_scanline.Statement.{statement}
 use Rattle.sfx.proofs.finalize_scanline.Tie as tie
+
+object-tags-requires : tie.Need-object-tags-requires
+object-tags-requires c κs = (search needs, object-bound (c .before .line-layers .ensures))
+
+compose-row-requires : tie.Need-compose-row-requires
+compose-row-requires c κs =
+    let weights = c .before .before in
+    (weights .line-weights .ensures .1, unmarked (weights .before .line-layers .ensures))
 
 returns : tie.Need-returns
 returns c =
     let written = c .before .before in
-    let pixels = written .before .before in
-    let weights = pixels .before in
+    let pixels = written .before in
+    let colors = pixels .before .before in
+    let objects = colors .before in
+    let tags = objects .before in
+    let weights = tags .before in
     let layers = weights .before in
     scanline-is _ _ _ _ _ _ _ _ _ _
     (layers .before .line-regions .ensures)
     (layers .line-layers .ensures)
     (weights .line-weights .ensures .0)
-    (pixels .finalize-row .ensures)
+    (tags .object-tags .ensures)
+    (objects .object-colors .ensures)
+    (colors .compose-row .ensures)
+    (pixels .wide-row .ensures)
     (written .write-row .ensures)
 
 pub finalize-scanline-spec : {M : Type 1} → statement M
@@ -25,6 +40,9 @@ finalize-scanline-spec =
     (search needs)
     (search needs)
     (search needs)
+    object-tags-requires
+    (search needs)
+    compose-row-requires
     (search needs)
     (search needs)
     (search needs)

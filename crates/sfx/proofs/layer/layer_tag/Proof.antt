@@ -26,5 +26,4 @@ layer-tag-spec =
     (search needs)
     (search needs)
     (search needs)
-    (search needs)
     returns)

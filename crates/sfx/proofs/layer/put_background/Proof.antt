@@ -1,4 +1,4 @@
--- sfx::layer::put_background meets its contract: both words are chosen by the test of putBackground.
+-- sfx::layer::put_background meets its contract: each halfword is chosen by the test of putBackground.
 -- Assumes nothing.
 use borrow.Author.Needs.{needs}
 use Rattle.sfx.proofs.Words.{putBackground-is}
@@ -12,6 +12,7 @@ pub put-background-spec : {M : Type 1} → statement M
 put-background-spec =
     tie.close
     (tie.spec
+    (search needs)
     (search needs)
     (search needs)
     (search needs)

@@ -1,4 +1,4 @@
--- sfx::layer::put_object meets its contract: the test is that of putObject.
+-- sfx::layer::put_object meets its contract: each halfword is chosen by the two tests of putObject.
 -- Assumes nothing.
 use borrow.Author.Needs.{needs}
 use Rattle.sfx.proofs.Words.{putObject-is}
@@ -12,6 +12,10 @@ pub put-object-spec : {M : Type 1} → statement M
 put-object-spec =
     tie.close
     (tie.spec
+    (search needs)
+    (search needs)
+    (search needs)
+    (search needs)
     (search needs)
     (search needs)
     (search needs)
