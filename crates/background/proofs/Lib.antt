@@ -2,4 +2,5 @@
 pub mod Points
 pub mod Maps
 pub mod Lines
+pub mod Empty
 pub mod Modes

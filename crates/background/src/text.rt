@@ -2,12 +2,15 @@
 ghost use mathlib.Core.Path.{_≡_};
 ghost use mathlib.Core.Bool.{true};
 ghost use Prim.Native.Nat.{_+_, _*_, _/_, _%_, _≤_, _<_};
+ghost use lib.Dec.{eqb};
 ghost use lib.ListN.{length, getD};
 ghost use Rattle.rgb15.specs.Colour.{rgb};
 ghost use Rattle.signed.specs.Signed.{inRange};
+ghost use Rattle.rows.specs.Below.{allBelow};
 ghost use Rattle.rows.specs.Tab.{tab};
+ghost use Rattle.memory.specs.Memory.{half};
 ghost use Rattle.memory.specs.Sizes.{videoRamSize};
-ghost use Rattle.memory.specs.Tiles.{colours};
+ghost use Rattle.memory.specs.Tiles.{colours, tilePixel};
 ghost use Rattle.background.specs.Lent.{Lent};
 ghost use Rattle.background.specs.Point.{coordinate, Side, pointColor};
 ghost use Rattle.background.specs.Regular.{tileIndex, xFlip, yFlip, entryBank, flipped, mapEntry};
@@ -74,7 +77,35 @@ fn tile_color(
     get_palette_color(palette, index, bank, 0)
 }
 
-// The eight colours of a row of the tile at `tile_addr`.
+// Two halfwords as a word, the low one first.
+fn word_of(low: u16, high: u16) -> u32
+    ensures { λ r. ⌜ r ≡ low + 0x10000 * high ⌝ }
+{
+    low as u32 + 0x10000 * (high as u32)
+}
+
+// The little-endian word at `at`.
+fn read_32(bytes: &[u8], at: usize) -> u32
+    requires { ⌜ at + 3 < length (now bytes) ⌝ }
+    ensures { λ r. ⌜ r ≡ half (now (bytes .entry)) at + 0x10000 * half (now (bytes .entry)) (at + 2) ⌝ }
+{
+    word_of(read_16(bytes, at), read_16(bytes, at + 2))
+}
+
+// Whether every pixel of a row of the tile at `tile_addr` has index 0. Its bytes are one word, or two.
+fn is_empty_row(vram: &[u8], tile_addr: usize, y: usize, format: PixelFormat) -> bool
+    requires { ⌜ (length (now vram) ≡ videoRamSize) × («tile_addr» + 63 < videoRamSize) × (y < 8) ⌝ }
+    ensures { λ r. ⌜ r ≡ allBelow (λ x. eqb (tilePixel (now (vram .entry)) «tile_addr» x y format) 0) 8 ⌝ }
+{
+    match format {
+        PixelFormat::BPP4 => read_32(vram, tile_addr + 4 * y) == 0,
+        PixelFormat::BPP8 => {
+            (read_32(vram, tile_addr + 8 * y) == 0) & (read_32(vram, tile_addr + 8 * y + 4) == 0)
+        }
+    }
+}
+
+// The eight colours of a row of the tile at `tile_addr`. Empty rows are common, and are seen without looking up a pixel.
 fn tile_row(
     vram: &[u8],
     palette: &[u8],
@@ -86,6 +117,9 @@ fn tile_row(
     requires { ⌜ Lent (now vram) (now palette) × («tile_addr» + 63 < videoRamSize) × (y < 8) × (16 * bank + colours format ≤ 256) ⌝ }
     ensures { λ r. ⌜ r ≡ tab (λ x. rgb (tileColor (now (vram .entry)) (now (palette .entry)) «tile_addr» x y format bank)) 8 ⌝ }
 {
+    if is_empty_row(vram, tile_addr, y, format) {
+        return [Rgb15::TRANSPARENT; 8];
+    }
     [
         tile_color(vram, palette, tile_addr, 0, y, format, bank),
         tile_color(vram, palette, tile_addr, 1, y, format, bank),

@@ -50,3 +50,9 @@ unfolding texel
 texel-is reading mapping vram palette s x y p q r e =
     e
     ∙ ap₂ (paletteColor palette 0x200) (q ∙ ap (λ addr. tilePixel vram addr (x % 8) (y % 8) (s .format)) p) r
+
+-- A pixel read at the column that was found.
+pub texel-moved : (reading : Reading) (mapping : ObjMapping) (vram palette : List ℕ) (s : ObjAttrs) (y : ℕ) {x z color : ℕ}
+    → x ≡ z → color ≡ texel reading mapping vram palette s x y → color ≡ texel reading mapping vram palette s z y
+texel-moved reading mapping vram palette s y x-is color-is =
+    color-is ∙ ap (λ x. texel reading mapping vram palette s x y) x-is

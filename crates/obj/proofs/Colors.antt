@@ -32,17 +32,27 @@ module _ (reading : Reading) (mapping : ObjMapping) (vram palette : List ℕ) (s
       let both = and-both a b t in
       (within-bounds x bias (s .width) (sym a-is ∙ both .0), within-bounds y bias (s .height) (sym b-is ∙ both .1))
 
-  pub colorAt-inside : (a && b) ≡ true
-      → texel reading mapping vram palette s (x - bias) (y - bias)
-      ≡ colorAt reading mapping vram palette s (subℕ x bias) (subℕ y bias)
-  unfolding colorAt
-  colorAt-inside t =
-      let bounds = colorAt-bounds t in
-      rw (sym (ap₂ _&&_ a-is b-is) ∙ t, subℕ-above x bias (bounds .0 .0), subℕ-above y bias (bounds .1 .0))
+  module _ {p q : ℕ} (x-is : x ≡ p) (y-is : y ≡ q) where
+    pub colorAt-inside : {color : ℕ} → (a && b) ≡ true
+        → color ≡ texel reading mapping vram palette s (x - bias) (y - bias)
+        → color ≡ colorAt reading mapping vram palette s (subℕ p bias) (subℕ q bias)
+    unfolding colorAt
+    colorAt-inside t color-is =
+        let bounds = colorAt-bounds t in
+        rw (
+          sym x-is,
+          sym y-is,
+          sym (ap₂ _&&_ a-is b-is) ∙ t,
+          subℕ-above x bias (bounds .0 .0),
+          subℕ-above y bias (bounds .1 .0),
+        )
+        color-is
 
-  pub colorAt-outside : (a && b) ≡ false → transparent ≡ colorAt reading mapping vram palette s (subℕ x bias) (subℕ y bias)
-  unfolding colorAt
-  colorAt-outside t = rw (sym (ap₂ _&&_ a-is b-is) ∙ t)
+    -- Elsewhere there is no pixel.
+    pub colorAt-outside : (a && b) ≡ false
+        → colorAt reading mapping vram palette s (subℕ p bias) (subℕ q bias) ≡ transparent
+    unfolding colorAt
+    colorAt-outside t = rw (sym x-is, sym y-is, sym (ap₂ _&&_ a-is b-is) ∙ t)
 
 -- ---- the colour at a column
 

@@ -1,61 +1,64 @@
 -- Laws of which sprites are drawn on a line. No contract cites this file. Assumes nothing.
-use Prim.Native.Nat.{ℕ, zero, suc, _+_, _*_, _%_, _≤_}
+use Prim.Native.Nat.{ℕ, zero, suc, _+_, _-_, _*_, _/_, _%_, _^_, _≤_, _<_}
+use native.Mathlib.Nat.{mul-assoc}
 use native.Mathlib.Omega.{arith}
 use mathlib.Core.Path.{_≡_, refl, sym, ap, ap₂, _∙_}
 use mathlib.Core.Bool.{Bool, true, false, _&&_, and-false}
-use mathlib.Core.List.{List, [], _∷_}
-use lib.Dec.{leb}
+use lib.Dec.{eqb, leb}
 use lib.IntN.{subℕ}
-use lib.ListN.{getD}
-use borrow.Author.Tests.{le-leb, lt-ltb}
+use lib.Pow.{pow-add}
+use borrow.Author.Tests.{eqb-true}
 use Rattle.bits.specs.Bits.{bits}
 use Rattle.signed.specs.Signed.{within}
 use Rattle.signed.proofs.Order.{and-both}
-use Rattle.signed.proofs.Remainder.{within-subℕ}
-use Rattle.memory.specs.Memory.{half}
+use Rattle.rows.specs.Below.{allBelow}
+use Rattle.rows.proofs.Below.{allBelow-at}
 use Rattle.regs.specs.declared.reading.Reading.{Reading}
-use Rattle.obj.specs.Oam.{Attributes, attributes}
+use Rattle.obj.specs.Oam.{Attributes}
 use Rattle.obj.specs.Size.{heights, objHeight}
-use Rattle.obj.specs.Attrs.{objType, objAttrs, sprite}
+use Rattle.obj.specs.Attrs.{objType, objAttrs}
 use Rattle.obj.specs.Place.{boxed, boxHeight, top, onLine}
 use Rattle.obj.specs.Tiles.{tileBase}
 use Rattle.obj.specs.Sprite.{isShown, isPermitted, drawn}
 use Rattle.obj.specs.declared.attrs.ObjAttrs.{ObjAttrs}
 use Rattle.obj.specs.declared.attrs.ObjType.{ObjType}
-use Rattle.obj.proofs.Places.{yOf-lifted, within-bounds, below-is}
+use Rattle.obj.proofs.Places.{yOf-lifted, below-is, onLine-bounds}
 
 -- ---- heights
 
-side-bound : {a b c d : ℕ} (size : ℕ) → a ≤ 64 → b ≤ 64 → c ≤ 64 → d ≤ 64 → getD (a ∷ b ∷ c ∷ d ∷ []) size 8 ≤ 64
-side-bound zero a≤ b≤ c≤ d≤ = a≤
-side-bound (suc zero) a≤ b≤ c≤ d≤ = b≤
-side-bound (suc (suc zero)) a≤ b≤ c≤ d≤ = c≤
-side-bound (suc (suc (suc zero))) a≤ b≤ c≤ d≤ = d≤
-side-bound (suc (suc (suc (suc size)))) a≤ b≤ c≤ d≤ = omega arith
+-- Two bits of a word, by shape and size, tell how many times 8 doubles to be the height.
+heights-packed : allBelow (λ n. eqb (8 * 2 ^ (0xe990e4 / 2 ^ (2 * n) % 4)) (objHeight (n % 4) (n / 4))) 16 ≡ true
+unfolding objHeight heights allBelow
+heights-packed = refl
 
--- No sprite is higher than 64.
-pub objHeight-bound : (size shape : ℕ) → objHeight size shape ≤ 64
-unfolding objHeight heights
-objHeight-bound size zero = side-bound size (omega arith) (omega arith) (omega arith) (omega arith)
-objHeight-bound size (suc zero) = side-bound size (omega arith) (omega arith) (omega arith) (omega arith)
-objHeight-bound size (suc (suc zero)) = side-bound size (omega arith) (omega arith) (omega arith) (omega arith)
-objHeight-bound size (suc (suc (suc shape))) = omega arith
+objHeight-packed : (size shape : ℕ) → size < 4 → shape < 4
+    → 8 * 2 ^ (0xe990e4 / 2 ^ (8 * shape + 2 * size) % 4) ≡ objHeight size shape
+objHeight-packed size shape size< shape< =
+    let n = 4 * shape + size in
+    let at : 8 * shape + 2 * size ≡ 2 * n = omega arith in
+    let size-is : n % 4 ≡ size = omega arith in
+    let shape-is : n / 4 ≡ shape = omega arith in
+    ap (λ k. 8 * 2 ^ (0xe990e4 / 2 ^ k % 4)) at
+    ∙ eqb-true _ _ (allBelow-at _ 16 heights-packed n (omega arith))
+    ∙ ap₂ objHeight size-is shape-is
 
--- No box is higher than twice that, and none but type 3's is higher than the sprite.
-pub boxed-bound : (type : ObjType) (height : ℕ) → height ≤ 64 → boxed type height ≤ 128
-unfolding boxed
-boxed-bound ObjType.Normal height h = omega arith
-boxed-bound ObjType.Affine height h = omega arith
-boxed-bound ObjType.Hidden height h = omega arith
-boxed-bound ObjType.AffineDoubleSize height h = omega arith
-
-pub boxed-single : (number : ℕ) → (number ≡ 3 → ⊥) → (height : ℕ) → height ≤ 64 → boxed (objType number) height ≤ 64
+-- The box of type 3 doubles the height once more.
+boxed-shifted : (type height : ℕ) → type < 4 → (type ≡ 2 → ⊥) → height * 2 ^ (type / 2) ≡ boxed (objType type) height
 unfolding boxed objType
-boxed-single zero other height h = h
-boxed-single (suc zero) other height h = h
-boxed-single (suc (suc zero)) other height h = h
-boxed-single (suc (suc (suc zero))) other height h = absurd (other refl)
-boxed-single (suc (suc (suc (suc number)))) other height h = h
+boxed-shifted zero height type< other = omega arith
+boxed-shifted (suc zero) height type< other = omega arith
+boxed-shifted (suc (suc zero)) height type< other = absurd (other refl)
+boxed-shifted (suc (suc (suc zero))) height type< other = omega arith
+boxed-shifted (suc (suc (suc (suc type)))) height type< other = omega arith
+
+pub boxed-packed : (type size shape : ℕ) → type < 4 → (type ≡ 2 → ⊥) → size < 4 → shape < 4
+    → 8 * 2 ^ (0xe990e4 / 2 ^ (8 * shape + 2 * size) % 4 + type / 2) ≡ boxed (objType type) (objHeight size shape)
+boxed-packed type size shape type< other size< shape< =
+    let doublings = 0xe990e4 / 2 ^ (8 * shape + 2 * size) % 4 in
+    ap (λ n. 8 * n) (pow-add 2 doublings (type / 2))
+    ∙ sym (mul-assoc 8 (2 ^ doublings) (2 ^ (type / 2)))
+    ∙ ap (λ h. h * 2 ^ (type / 2)) (objHeight-packed size shape size< shape<)
+    ∙ boxed-shifted type (objHeight size shape) type< other
 
 -- ---- sprites that are not drawn
 
@@ -67,25 +70,6 @@ module _ (reading : Reading) (start : ℕ) (s : ObjAttrs) (line : ℕ) where
   drawn-missed : onLine reading s line ≡ false → drawn reading start s line ≡ false
   unfolding drawn
   drawn-missed e = rw (e, and-false (isShown (s .objtype) && isPermitted (s .objmode)))
-
-  -- What lies in the box lies in any that is as high.
-  onLine-missed : (t height : ℕ) → top reading s ≡ subℕ t 96 → boxHeight s ≤ height
-      → within (subℕ (line + 96) t) height ≡ false
-      → onLine reading s line ≡ false
-  unfolding onLine
-  onLine-missed t height top-is h out = go (within (subℕ (line + 96) t) (boxHeight s)) refl
-    where
-      is : onLine reading s line ≡ within (subℕ (line + 96) t) (boxHeight s)
-      is = ap (λ z. within z (boxHeight s)) (below-is reading s t top-is line)
-
-      go : (b : Bool) → within (subℕ (line + 96) t) (boxHeight s) ≡ b → onLine reading s line ≡ false
-      go false e = is ∙ e
-      go true e =
-          let bounds = within-bounds (line + 96) t (boxHeight s) e in
-          let inside : within (subℕ (line + 96) t) height ≡ true
-          = within-subℕ (line + 96) t height
-          ∙ ap₂ _&&_ (le-leb t (line + 96) (bounds .0)) (lt-ltb (line + 96) (t + height) (omega arith)) in
-          is ∙ e ∙ sym inside ∙ out
 
   -- A sprite that is drawn has the line in its box.
   pub drawn-onLine : drawn reading start s line ≡ true → onLine reading s line ≡ true
@@ -113,27 +97,18 @@ module _ (reading : Reading) (start : ℕ) (a : Attributes) (line : ℕ) where
   pub drawn-type : bits 9 8 (a .first) ≡ 2 → drawn reading start (objAttrs a) line ≡ false
   drawn-type e = drawn-hidden reading start (objAttrs a) line (unfold objAttrs objType in rw e)
 
-  -- A line that misses a box as high as any of the sprite's type misses the sprite's.
-  pub drawn-box : (height : ℕ) {y : ℕ} → y ≡ bits 7 0 (a .first)
-      → ((h : ℕ) → h ≤ 64 → boxed (objType (bits 9 8 (a .first))) h ≤ height)
-      → within (subℕ (line + 96) ((y + 96) % 256)) height ≡ false
+  -- A sprite isn't drawn on a line whose row, counted from the box's top and round 256, is past the box's end.
+  pub drawn-row : {height y : ℕ}
+      → height ≡ boxed (objType (bits 9 8 (a .first))) (objHeight (bits 15 14 (a .second)) (bits 15 14 (a .first)))
+      → y ≡ bits 7 0 (a .first) → line < 160 → height ≤ (line + 256 - y) % 256
       → drawn reading start (objAttrs a) line ≡ false
   unfolding objAttrs top
-  drawn-box height y-is high out =
-      drawn-missed reading start (objAttrs a) line
-      (onLine-missed reading start (objAttrs a) line _ height
-      (yOf-lifted (bits 7 0 (a .first)) (omega arith))
-      (high _ (objHeight-bound _ _))
-      (ap (λ y. within (subℕ (line + 96) ((y + 96) % 256)) height) (sym y-is) ∙ out))
-
--- A sprite that its first halfword rules out is not drawn.
-pub drawn-first : (reading : Reading) (start line : ℕ) (oam : List ℕ) (n : ℕ) {h : ℕ} → h ≡ half oam (8 * n)
-    → ((second third : ℕ)
-    → drawn reading start (objAttrs (record { first = h; second = second; third = third })) line ≡ false)
-    → drawn reading start (sprite oam n) line ≡ false
-unfolding attributes
-drawn-first reading start line oam n h-is out =
-    let second = half oam (8 * n + 2) in
-    let third = half oam (8 * n + 4) in
-    ap (λ h. drawn reading start (objAttrs (record { first = h; second = second; third = third })) line) (sym h-is)
-    ∙ out second third
+  drawn-row height-is y-is line< past =
+      drawn-missed reading start (objAttrs a) line (go (onLine reading (objAttrs a) line) refl)
+    where
+      go : (t : Bool) → onLine reading (objAttrs a) line ≡ t → onLine reading (objAttrs a) line ≡ false
+      go false t = t
+      go true t =
+          let y = bits 7 0 (a .first) in
+          let bounds = onLine-bounds reading (objAttrs a) ((y + 96) % 256) (yOf-lifted y (omega arith)) line t in
+          absurd (omega (arith, height-is, y-is, bounds))

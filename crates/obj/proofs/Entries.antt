@@ -16,7 +16,7 @@ use Rattle.rows.specs.Words.{wordCells}
 use Rattle.rows.proofs.Below.{allBelow-tally}
 use Rattle.rows.proofs.Words.{low-join, high-join}
 use Rattle.obj.specs.Entry.{entryCells, wellShaped, shapedRow}
-use Rattle.obj.specs.declared.entry.Entry.{Entry}
+use Rattle.obj.specs.Word.{entryOf}
 
 -- A row of bytes is exact.
 pub exact-entryCells : (l : List ℕ) → ((i : ℕ) → Fits w8 (getD l i 0)) → (k : ℕ) → Exact entryCells l k
@@ -50,9 +50,7 @@ module _ (a b c d : ℕ) {w : ℕ} (fits-a : Fits w8 a) (fits-b : Fits w8 b) (fi
 
 -- The entry of a word that was read.
 pub entry-of-word : (l : List ℕ) → ((i : ℕ) → Fits w8 (getD l i 0)) → (k : ℕ) {w : ℕ} → w ≡ cellAt wordCells l k
-    → _≡_ {A = Entry}
-    (record { color = rgb (w % 0x10000); priority = w / 0x10000 % 0x100; marks = w / 0x1000000 })
-    (cellAt entryCells l k)
+    → entryOf w ≡ cellAt entryCells l k
 unfolding entryCells wordCells cellAt bytesFrom
 entry-of-word l bytes k word-is =
     let first = bytes (4 * k) in

@@ -1,9 +1,11 @@
 -- Laws of the pixels that a sprite puts. No contract cites this file. Assumes nothing.
 use Prim.Native.Nat.{ℕ, _+_, _≤_, _<_}
 use mathlib.Core.Path.{_≡_, refl, sym, ap, ap₂, _∙_}
-use mathlib.Core.Bool.{Bool, true, false, cond, _||_, or-true}
+use mathlib.Core.Bool.{Bool, true, false, not, cond, _&&_, _||_, or-true}
 use mathlib.Core.List.{List}
+use lib.Dec.{leb}
 use lib.ListN.{length, getD}
+use borrow.Author.Tests.{not-true, not-false}
 use mir.Syntax.{w8}
 use mir.Val.{Fits}
 use Rattle.rgb15.specs.Colour.{transparent, isTransparent}
@@ -12,22 +14,64 @@ use Rattle.rows.specs.Cells.{cellAt, putCell}
 use Rattle.rows.proofs.Cells.{putCell-same, mapRow-cong, mapRow-same}
 use Rattle.rows.proofs.Passed.{PassedPart, passed-from, passed-inside, passed-to}
 use Rattle.obj.specs.Entry.{entryCells}
-use Rattle.obj.specs.Put.{passedOver, written, putPixel, putColumn, putRow}
+use Rattle.obj.specs.Put.{passedOver, shownBy, windowed, written, putPixel, putColumn, putRow}
+use Rattle.obj.specs.Sprite.{isPermitted}
+use Rattle.obj.specs.Order.{isSemi, isWindow}
 use Rattle.obj.specs.declared.attrs.ObjAttrs.{ObjAttrs}
 use Rattle.obj.specs.declared.attrs.ObjMode.{ObjMode}
 use Rattle.obj.specs.declared.entry.Entry.{Entry}
 use Rattle.obj.proofs.Entries.{exact-entryCells}
+
+-- ---- a pixel, by questions asked of the mode
+
+passedOver-asked : (mode : ObjMode) (priority : ℕ) (e : Entry)
+    → (not (isWindow mode) && leb (e .priority) priority) ≡ passedOver mode priority e
+unfolding passedOver isWindow
+passedOver-asked ObjMode.Normal priority e = refl
+passedOver-asked ObjMode.Sfx priority e = refl
+passedOver-asked ObjMode.Window priority e = refl
+passedOver-asked ObjMode.Forbidden priority e = refl
+
+written-asked : (mode : ObjMode) (priority color : ℕ) (e : Entry)
+    → cond (isPermitted mode) (cond (isWindow mode) (windowed e) (shownBy (cond (isSemi mode) 1 0) priority color e)) e
+    ≡ written mode priority color e
+unfolding written isPermitted isWindow isSemi
+written-asked ObjMode.Normal priority color e = refl
+written-asked ObjMode.Sfx priority color e = refl
+written-asked ObjMode.Window priority color e = refl
+written-asked ObjMode.Forbidden priority color e = refl
+
+module _ (mode : ObjMode) (priority : ℕ) (e : Entry) where
+  pub passedOver-is : {window : Bool} → window ≡ isWindow mode
+      → (not window && leb (e .priority) priority) ≡ passedOver mode priority e
+  passedOver-is window-is = ap (λ t. not t && leb (e .priority) priority) window-is ∙ passedOver-asked mode priority e
+
+  module _ (color : ℕ) {permitted : Bool} (permitted-is : permitted ≡ isPermitted mode) where
+    -- A sprite that isn't drawn writes nothing.
+    pub written-none : not permitted ≡ true → e ≡ written mode priority color e
+    written-none t = rw (sym permitted-is ∙ not-true permitted t) at (written-asked mode priority color e)
+
+    module _ {window : Bool} (window-is : window ≡ isWindow mode) (t : not permitted ≡ false) where
+      pub written-window : {r : Entry} → window ≡ true → r ≡ windowed e → r ≡ written mode priority color e
+      written-window w windowed-is =
+          windowed-is
+          ∙ (rw (sym permitted-is ∙ not-false permitted t, sym window-is ∙ w) at (written-asked mode priority color e))
+
+      pub written-shown : {semi : ℕ} {r : Entry} → window ≡ false → semi ≡ cond (isSemi mode) 1 0
+          → r ≡ shownBy semi priority color e
+          → r ≡ written mode priority color e
+      written-shown w semi-is shown =
+          shown
+          ∙ ap (λ n. shownBy n priority color e) semi-is
+          ∙ (rw (sym permitted-is ∙ not-false permitted t, sym window-is ∙ w) at (written-asked mode priority color e))
+
+-- ---- a pixel put
 
 module _ (mode : ObjMode) (priority : ℕ) where
   -- A transparent pixel changes nothing.
   pub putPixel-transparent : (e : Entry) → putPixel mode priority transparent e ≡ e
   unfolding putPixel
   putPixel-transparent e = rw (or-true (passedOver mode priority e))
-
-  -- A pixel that is passed over changes nothing.
-  pub putPixel-passed : (color : ℕ) (e : Entry) → passedOver mode priority e ≡ true → putPixel mode priority color e ≡ e
-  unfolding putPixel
-  putPixel-passed color e t = rw t
 
   module _ (color : ℕ) (e : Entry) {passed clear : Bool}
       (passed-is : passed ≡ passedOver mode priority e) (clear-is : clear ≡ isTransparent color) where
@@ -55,16 +99,14 @@ pub putColumn-is : (s : ObjAttrs) (entries : List ℕ) (column : ℕ) {m : List 
     → m ≡ putColumn s z entries column → z ≡ color → m ≡ putColumn s color entries column
 putColumn-is s entries column e z-is = e ∙ ap (λ z. putColumn s z entries column) z-is
 
--- An entry for which the sprite is passed over stays, whatever the colour.
-pub putColumn-passed : (s : ObjAttrs) (color : ℕ) (entries : List ℕ) (column : ℕ) {e : Entry} {passed : Bool}
-    → ((i : ℕ) → Fits w8 (getD entries i 0))
-    → e ≡ cellAt entryCells entries column → passed ≡ passedOver (s .objmode) (s .priority) e → passed ≡ true
+-- An entry in which a transparent pixel is put stays.
+pub putColumn-transparent : (s : ObjAttrs) (entries : List ℕ) (column : ℕ) {color : ℕ}
+    → ((i : ℕ) → Fits w8 (getD entries i 0)) → color ≡ transparent
     → entries ≡ putColumn s color entries column
-putColumn-passed s color entries column bytes e-is passed-is t =
+putColumn-transparent s entries column bytes color-is =
     sym (putCell-same entryCells entries column (exact-entryCells entries bytes column))
-    ∙ ap (putCell entryCells entries column)
-    (sym (putPixel-passed (s .objmode) (s .priority) color _
-    (ap (passedOver (s .objmode) (s .priority)) (sym e-is) ∙ sym passed-is ∙ t)))
+    ∙ ap (putCell entryCells entries column) (sym (putPixel-transparent (s .objmode) (s .priority) _))
+    ∙ ap (λ z. putColumn s z entries column) (sym color-is)
 
 -- A sprite that has no pixel leaves the row.
 pub putRow-none : (s : ObjAttrs) (entries : List ℕ) → ((i : ℕ) → Fits w8 (getD entries i 0))

@@ -1,6 +1,6 @@
--- Laws of well-shaped entries: the reset row is well shaped, and the pass keeps a row so. No contract cites this file.
--- Assumes nothing.
-use Prim.Native.Nat.{ℕ, zero, suc, _+_, _*_, _/_, _%_, _≤_, _<_}
+-- Laws of well-shaped entries: two tests of an entry's word tell them, the reset row is well shaped, and the pass keeps a
+-- row so. No contract cites this file. Assumes nothing.
+use Prim.Native.Nat.{ℕ, zero, suc, _+_, _-_, _*_, _/_, _%_, _≤_, _<_}
 use native.Mathlib.Omega.{arith}
 use mathlib.Core.Path.{_≡_, refl, sym, ap, _∙_}
 use mathlib.Core.Bool.{Bool, true, false, not, cond, _&&_, _||_, or-true}
@@ -8,7 +8,7 @@ use mathlib.Core.Logic.{_⊎_, inl, inr, ⊎-elim}
 use mathlib.Core.List.{List}
 use lib.Dec.{eqb, leb}
 use lib.IntN.{ℤ, pos, natAbs, _-ℤ_}
-use borrow.Author.Tests.{eqb-true, eqb-false, eq-eqb, leb-true, le-leb, not-true}
+use borrow.Author.Tests.{eqb-true, eqb-false, eq-eqb, ne-eqb, leb-true, le-leb, not-true}
 use Rattle.rgb15.specs.Colour.{transparent, isTransparent}
 use Rattle.signed.specs.Signed.{within}
 use Rattle.signed.proofs.Order.{and-both}
@@ -25,6 +25,7 @@ use Rattle.obj.specs.Tiles.{texel}
 use Rattle.obj.specs.Color.{flip, normalColor, turn, colorAt, affineColor}
 use Rattle.obj.specs.Sprite.{Source, drawn, typedColor, spriteColor}
 use Rattle.obj.specs.Entry.{entryCells, semiMark, resetRow, wellShaped, shapedRow}
+use Rattle.obj.specs.Word.{entryOf}
 use Rattle.obj.specs.Put.{passedOver, shownBy, windowed, written, putPixel, spriteStep, entryUpTo, rowAfter}
 use Rattle.obj.specs.declared.attrs.ObjAttrs.{ObjAttrs}
 use Rattle.obj.specs.declared.attrs.ObjMode.{ObjMode}
@@ -97,11 +98,7 @@ clean-sprite reading o line n column =
     (typedColor (s .objtype) reading (o .mapping) (o .vram) (o .palette) (o .oam) s line column) transparent
     (clean-typed reading (o .mapping) (o .vram) (o .palette) s (s .objtype) (o .oam) line column) clean-transparent
 
--- ---- what a pixel makes of a well-shaped entry
-
-or-second : (a b : Bool) → (a || b) ≡ false → b ≡ false
-or-second true b e = absurd (let z : _≡_ {A = ℕ} 0 1 = cc in omega arith)
-or-second false b e = e
+-- ---- well-shaped entries
 
 -- The parts of a well-shaped entry.
 abbrev Shape : Entry → Type 0
@@ -146,6 +143,83 @@ wellShaped-blank e marks≤ priority-is color-is semi-is =
       eq-eqb (e .color .0) transparent color-is,
       semi-is,
     )
+
+-- ---- a word's tests
+
+-- Two tests agree where each one's truth gives the other's.
+both-ways : (s t : Bool) → (s ≡ true → t ≡ true) → (t ≡ true → s ≡ true) → s ≡ t
+both-ways true t f g = sym (f refl)
+both-ways false true f g = g refl
+both-ways false false f g = refl
+
+module _ (w : ℕ) where
+  -- The word without bit 25, which is the window mark.
+  abbrev unmarked : ℕ
+  unmarked = w - 0x2000000 * (w / 0x2000000 % 2)
+
+  unmarked-fields : unmarked ≡ 0x48000
+      → (w / 0x1000000 ≤ 3) × (w / 0x10000 % 0x100 ≡ 4) × (w % 0x10000 ≡ 0x8000) × (w / 0x1000000 / 1 % 2 ≡ 0)
+  unmarked-fields e = (omega arith, omega arith, omega arith, omega arith)
+
+  fields-unmarked : w / 0x1000000 ≤ 3 → w / 0x10000 % 0x100 ≡ 4 → w % 0x10000 ≡ 0x8000 → (w / 0x1000000 / 1 % 2 ≡ 1 → ⊥)
+      → unmarked ≡ 0x48000
+  fields-unmarked marks≤ priority-is color-is semi-is = omega arith
+
+  -- Of the bits that a shown pixel has clear, 26 to 31 are of the marks, 18 to 23 of the priority, and 15 of the colour.
+  marks-clear : w / 0x4000000 ≡ 0 → w / 0x1000000 ≤ 3
+  marks-clear e = omega arith
+
+  priority-clear : w / 0x40000 % 0x40 ≡ 0 → w / 0x10000 % 0x100 ≤ 3
+  priority-clear e = omega arith
+
+  color-clear : w / 0x8000 % 2 ≡ 0 → w % 0x10000 ≤ 0x7fff
+  color-clear e = omega arith
+
+  fields-clear : w / 0x1000000 ≤ 3 → w / 0x10000 % 0x100 ≤ 3 → w % 0x10000 ≤ 0x7fff
+      → (w / 0x8000 % 2 ≡ 0) × (w / 0x40000 % 0x40 ≡ 0) × (w / 0x4000000 ≡ 0)
+  fields-clear marks≤ priority≤ color≤ = (omega arith, omega arith, omega arith)
+
+  abbrev isBlankWord : Bool
+  isBlankWord = eqb unmarked 0x48000
+
+  abbrev isShownWord : Bool
+  isShownWord = eqb (w / 0x8000 % 2) 0 && eqb (w / 0x40000 % 0x40) 0 && eqb (w / 0x4000000) 0
+
+  wellShaped-blankWord : isBlankWord ≡ true → wellShaped (entryOf w) ≡ true
+  wellShaped-blankWord t =
+      let fields = unmarked-fields (eqb-true unmarked 0x48000 t) in
+      let semi-is = ne-eqb (w / 0x1000000 / 1 % 2) 1 (omega (arith, fields .3)) in
+      wellShaped-blank (entryOf w) (fields .0) (fields .1) (fields .2) semi-is
+
+  wellShaped-shownWord : isShownWord ≡ true → wellShaped (entryOf w) ≡ true
+  wellShaped-shownWord t =
+      let all = and-both (eqb (w / 0x8000 % 2) 0 && eqb (w / 0x40000 % 0x40) 0) (eqb (w / 0x4000000) 0) t in
+      let front = and-both (eqb (w / 0x8000 % 2) 0) (eqb (w / 0x40000 % 0x40) 0) (all .0) in
+      wellShaped-shown (entryOf w)
+      (marks-clear (eqb-true _ 0 (all .1)))
+      (priority-clear (eqb-true _ 0 (front .1)))
+      (color-clear (eqb-true _ 0 (front .0)))
+
+  word-wellShaped : Shape (entryOf w) → (isBlankWord || isShownWord) ≡ true
+  word-wellShaped (marks≤, inl blank) =
+      let semi-is = eqb-false (w / 0x1000000 / 1 % 2) 1 (blank .2) in
+      rw (eq-eqb unmarked 0x48000 (fields-unmarked marks≤ (blank .0) (blank .1) semi-is))
+  word-wellShaped (marks≤, inr shown) =
+      let bits = fields-clear marks≤ (shown .0) (shown .1) in
+      rw (eq-eqb _ 0 (bits .0), eq-eqb _ 0 (bits .1), eq-eqb _ 0 (bits .2)) (or-true isBlankWord)
+
+  -- A word's tests are those of its entry.
+  pub wellShaped-word : (isBlankWord || isShownWord) ≡ wellShaped (entryOf w)
+  wellShaped-word =
+      both-ways (isBlankWord || isShownWord) (wellShaped (entryOf w))
+      (λ t. ⊎-elim wellShaped-blankWord wellShaped-shownWord (or-split isBlankWord isShownWord t))
+      (λ t. word-wellShaped (shape-of (entryOf w) t))
+
+-- ---- what a pixel makes of a well-shaped entry
+
+or-second : (a b : Bool) → (a || b) ≡ false → b ≡ false
+or-second true b e = absurd (let z : _≡_ {A = ℕ} 0 1 = cc in omega arith)
+or-second false b e = e
 
 wellShaped-windowed : (e : Entry) → Shape e → wellShaped (windowed e) ≡ true
 unfolding windowed

@@ -1,29 +1,37 @@
 -- Laws of the pass: a pass for each sprite over all columns is, at each column, a run through the sprites.
 -- No contract cites this file. Assumes nothing.
-use Prim.Native.Nat.{ℕ, _+_, _<_}
+use Prim.Native.Nat.{ℕ, zero, suc, _+_, _-_, _≤_, _<_}
 use native.Mathlib.Numerals.{add-one}
+use native.Mathlib.Omega.{arith}
 use mathlib.Core.Path.{_≡_, refl, sym, ap, _∙_}
 use mathlib.Core.Bool.{true, false}
-use mathlib.Core.List.{List}
+use mathlib.Core.List.{List, [], _∷_}
 use lib.ListN.{length, getD}
 use mir.Syntax.{w8}
 use mir.Val.{Fits}
+use denote.Enum.Declared.{tagOf}
+use types.Run.{OneOf, miss}
 use Rattle.rows.specs.Cells.{mapRow}
 use Rattle.rows.proofs.Cells.{mapRow-all, mapRow-cong, mapRow-same}
+use Rattle.rows.proofs.Passed.{Composed, composed-none, composed-more}
 use Rattle.memory.specs.Memory.{Memory}
 use Rattle.regs.specs.Registers.{dispcnt}
 use Rattle.regs.specs.Display.{DisplayControlOf, objMapping}
 use Rattle.regs.specs.declared.DisplayControl.{DisplayControl}
 use Rattle.regs.specs.declared.ObjMapping.{ObjMapping}
 use Rattle.regs.specs.declared.reading.Reading.{Reading}
+use Rattle.obj.specs.Oam.{matrix}
 use Rattle.obj.specs.Attrs.{sprite}
+use Rattle.obj.specs.Color.{affineColor}
 use Rattle.obj.specs.Tiles.{tilesStart}
 use Rattle.obj.specs.Sprite.{Source, source, drawn, typedColor, spriteColor}
+use Rattle.obj.specs.Skip.{NoneDrawn}
 use Rattle.obj.specs.Entry.{entryCells}
 use Rattle.obj.specs.Put.{putPixel, putRow, spriteStep, entryUpTo, rowAfter}
 use Rattle.obj.specs.declared.attrs.ObjAttrs.{ObjAttrs}
 use Rattle.obj.specs.declared.attrs.ObjType.{ObjType}
 use Rattle.obj.specs.declared.entry.Entry.{Entry}
+use Rattle.obj.proofs.attrs.ObjType.{the-type}
 use Rattle.obj.proofs.Entries.{exact-entryCells}
 use Rattle.obj.proofs.Pixels.{putPixel-transparent}
 
@@ -36,6 +44,18 @@ pub putRow-typed : (reading : Reading) (mapping : ObjMapping) (vram palette oam 
 putRow-typed reading mapping vram palette oam s line entries type-is put-is =
     put-is
     ∙ ap (λ type. putRow s (typedColor type reading mapping vram palette oam s line) entries) (sym type-is)
+
+-- Both affine types have the colours of affine sprites; their numbers among the variants are 1 and 3.
+pub putRow-affine : (reading : Reading) (mapping : ObjMapping) (vram palette oam : List ℕ) (s : ObjAttrs) (line : ℕ)
+    (entries : List ℕ)
+    (type : ObjType) {m : List ℕ} → OneOf (1 ∷ 3 ∷ []) (tagOf the-type type)
+    → m ≡ putRow s (affineColor reading mapping vram palette (matrix oam (s .«affine_index»)) s line) entries
+    → m ≡ putRow s (typedColor type reading mapping vram palette oam s line) entries
+unfolding typedColor
+putRow-affine reading mapping vram palette oam s line entries ObjType.Normal one put-is = absurd (miss (1 ∷ 3 ∷ []) 0 tt one)
+putRow-affine reading mapping vram palette oam s line entries ObjType.Affine one put-is = put-is
+putRow-affine reading mapping vram palette oam s line entries ObjType.Hidden one put-is = absurd (miss (1 ∷ 3 ∷ []) 2 tt one)
+putRow-affine reading mapping vram palette oam s line entries ObjType.AffineDoubleSize one put-is = put-is
 
 module _ (reading : Reading) (o : Source) (line n : ℕ) where
   -- A sprite that is not drawn changes nothing.
@@ -68,14 +88,64 @@ module _ (reading : Reading) (o : Source) (line n : ℕ) where
     step-drawn s-is d put-is = put-is ∙ mapRow-cong entryCells _ _ 240 entries (λ k k< e. spriteStep-drawn s-is d k e)
 
 module _ (reading : Reading) (o : Source) (line : ℕ) where
-  pub entryUpTo-none : (column : ℕ) (e : Entry) → entryUpTo reading o line 0 column e ≡ e
+  entryUpTo-none : (column : ℕ) (e : Entry) → entryUpTo reading o line 0 column e ≡ e
   unfolding entryUpTo
   entryUpTo-none column e = refl
 
-  pub entryUpTo-more : (n column : ℕ) (e : Entry)
+  entryUpTo-more : (n column : ℕ) (e : Entry)
       → spriteStep reading o line n column (entryUpTo reading o line n column e) ≡ entryUpTo reading o line (n + 1) column e
   unfolding entryUpTo
   entryUpTo-more n column e = ap (λ k. entryUpTo reading o line k column e) (sym (add-one n))
+
+  -- Sprites that are not drawn change nothing: n of them from a on, and those from a up to b.
+  entryUpTo-idle : (a n column : ℕ) (e : Entry) → NoneDrawn (o .oam) line a (a + n)
+      → entryUpTo reading o line a column e ≡ entryUpTo reading o line (a + n) column e
+  unfolding entryUpTo
+  entryUpTo-idle a zero column e none =
+      let same : a ≡ a + 0 = omega arith in ap (λ k. entryUpTo reading o line k column e) same
+  entryUpTo-idle a (suc n) column e none =
+      let next : suc (a + n) ≡ a + suc n = omega arith in
+      entryUpTo-idle a n column e (λ reading start k from to. none reading start k from (omega arith))
+      ∙ sym (spriteStep-none reading o line (a + n) (none reading (o .start) (a + n) (omega arith) (omega arith)) column _)
+      ∙ ap (λ k. entryUpTo reading o line k column e) next
+
+  entryUpTo-rest : (a b column : ℕ) (e : Entry) → a ≤ b → NoneDrawn (o .oam) line a b
+      → entryUpTo reading o line a column e ≡ entryUpTo reading o line b column e
+  entryUpTo-rest a b column e h none =
+      let end : a + (b - a) ≡ b = omega arith in
+      entryUpTo-idle a (b - a) column e (λ reading start k from to. none reading start k from (omega arith))
+      ∙ ap (λ k. entryUpTo reading o line k column e) end
+
+  -- What the sprites before number n made of each column.
+  abbrev pub SpritesUpTo : List ℕ → ℕ → List ℕ → Type 0
+  SpritesUpTo = Composed entryCells (entryUpTo reading o line) 240 128
+
+  -- The row after sprites that are not drawn is the row before them.
+  sprites-skip : {a b : ℕ} {l₀ l : List ℕ} → SpritesUpTo l₀ a l → (a ≤ b) × (b ≤ 128) × NoneDrawn (o .oam) line a b
+      → SpritesUpTo l₀ b l
+  sprites-skip {a} {b} {l₀} p next =
+      record {
+        bound = next .1;
+        size = p .size;
+        made = p .made ∙ mapRow-cong entryCells _ _ 240 l₀ (λ k k< e. entryUpTo-rest a b k e (next .0) (next .2));
+      }
+
+  -- Where the pass begins: the first sprites are passed by up to a.
+  pub sprites-first : {a : ℕ} {l : List ℕ} → length l ≡ 960 → ((i : ℕ) → Fits w8 (getD l i 0))
+      → (0 ≤ a) × (a ≤ 128) × NoneDrawn (o .oam) line 0 a
+      → SpritesUpTo l a l
+  sprites-first {l = l} size bytes next =
+      sprites-skip (composed-none entryCells size (λ k k<. exact-entryCells l bytes k) entryUpTo-none) next
+
+  -- A turn: sprite a is put, and those after it are passed by up to b.
+  pub sprites-next : {a b : ℕ} {l₀ l m : List ℕ} → SpritesUpTo l₀ a l → a < 128
+      → m ≡ mapRow entryCells (spriteStep reading o line a) 240 l
+      → (a + 1 ≤ b) × (b ≤ 128) × NoneDrawn (o .oam) line (a + 1) b
+      → SpritesUpTo l₀ b m
+  sprites-next {a} p a< m-is next =
+      sprites-skip
+      (composed-more entryCells (spriteStep reading o line a) p a< m-is (λ k k< e. entryUpTo-more a k e))
+      next
 
 -- The source of the lent memory, by the display control that was read.
 pub source-is : (m : Memory) {d : DisplayControl} {mapping : ObjMapping} {start : ℕ}

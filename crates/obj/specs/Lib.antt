@@ -7,6 +7,8 @@ pub mod Tiles
 pub mod Color
 pub mod Turn
 pub mod Sprite
+pub mod Skip
 pub mod Entry
+pub mod Word
 pub mod Put
 pub mod Order

@@ -1,7 +1,7 @@
 // A sprite's attributes, decoded (render/obj.rs: `ObjAttrs`, its enums and its bit fields). R and H agree wherever a
 // reading is passed on.
 ghost use mathlib.Core.Path.{_≡_};
-ghost use mathlib.Core.Bool.{true, false};
+ghost use mathlib.Core.Bool.{true, false, cond};
 ghost use Prim.Native.Nat.{ℕ, _+_, _^_, _≤_, _<_};
 ghost use lib.IntN.{pos, subℕ};
 ghost use Rattle.signed.specs.Signed.{within};
@@ -13,6 +13,7 @@ ghost use Rattle.obj.specs.Attrs.{objMode, objType, objAttrs, Decoded};
 ghost use Rattle.obj.specs.Place.{boxed, boxWidth, boxHeight, left, top, below, onLine};
 ghost use Rattle.obj.specs.Tiles.{tileBase, tileRow, tileAt};
 ghost use Rattle.obj.specs.Sprite.{isShown, isPermitted, drawn};
+ghost use Rattle.obj.specs.Order.{isSemi, isWindow};
 use memory::PixelFormat;
 use regs::ObjMapping;
 use regs::Reading;
@@ -26,6 +27,9 @@ const TILE_STEP: usize = 0x20;
 pub(crate) const X_BIAS: usize = 272;
 
 const Y_BIAS: usize = 96;
+
+// Two bits for each size of each shape: how many times 8 doubles to be the height.
+const HEIGHTS: u32 = 0xe9_90e4;
 
 pub enum ObjMode {
     Normal,
@@ -48,7 +52,7 @@ impl ObjMode {
     }
 
     // Whether sprites of this mode are drawn.
-    fn is_permitted(self) -> bool
+    pub(crate) fn is_permitted(self) -> bool
         ensures { λ r. ⌜ r ≡ isPermitted self ⌝ }
     {
         match self {
@@ -56,6 +60,30 @@ impl ObjMode {
             ObjMode::Sfx => true,
             ObjMode::Window => true,
             ObjMode::Forbidden => false,
+        }
+    }
+
+    // Whether sprites of this mode are window sprites.
+    pub(crate) fn is_window(self) -> bool
+        ensures { λ r. ⌜ r ≡ isWindow self ⌝ }
+    {
+        match self {
+            ObjMode::Normal => false,
+            ObjMode::Sfx => false,
+            ObjMode::Window => true,
+            ObjMode::Forbidden => false,
+        }
+    }
+
+    // The semi-transparent mark that sprites of this mode leave, 0 or 1.
+    pub(crate) fn semi(self) -> u8
+        ensures { λ r. ⌜ (r ≡ cond (isSemi self) 1 0) × (r ≤ 1) ⌝ }
+    {
+        match self {
+            ObjMode::Normal => 0,
+            ObjMode::Sfx => 1,
+            ObjMode::Window => 0,
+            ObjMode::Forbidden => 0,
         }
     }
 }
@@ -295,27 +323,29 @@ impl ObjAttrs {
     }
 }
 
-// The height of the tallest box of a type, by its number.
-fn tallest(objtype: u16) -> usize
-    ensures { λ r.
-        ⌜ (r ≤ 128) × ((height : ℕ) → height ≤ 64 → boxed (objType objtype) height ≤ r) ⌝ }
+// The height of a sprite's box by the numbers of its type, size and shape, if the type isn't 2: unlike a `match`, no jump.
+fn packed_box_height(objtype: u16, size: u16, shape: u16) -> usize
+    requires { ⌜ (objtype < 4) × (objtype ≡ 2 → ⊥) × (size < 4) × (shape < 4) ⌝ }
+    ensures { λ r. ⌜ r ≡ boxed (objType objtype) (objHeight size shape) ⌝ }
 {
-    if objtype == 3 { 128 } else { 64 }
+    let doublings = (HEIGHTS >> (8 * shape + 2 * size)) % 4;
+    8 << (doublings + (objtype / 2) as u32)
 }
 
-// Whether the first halfword alone tells that a sprite isn't drawn on a line: it is hidden, or the line misses even the
-// tallest box that its type can have.
-pub(crate) fn is_ruled_out(attr0: u16, line: usize) -> bool
+// Whether the first two halfwords tell that a sprite isn't drawn on a line: it is hidden, or its box misses the line. Rows
+// are counted round 256, which makes one test of two; lines far above a box of 128 pass it, and `is_drawn` finds them.
+pub(crate) fn is_ruled_out(attr0: u16, attr1: u16, line: usize) -> bool
     requires { ⌜ line < 160 ⌝ }
     ensures { λ r.
         ⌜ (r ≡ true
-        → (reading : Reading) (start second third : ℕ)
-        → drawn reading start (objAttrs (record { first = attr0; second = second; third = third })) line ≡ false) ⌝ }
+        → (reading : Reading) (start third : ℕ)
+        → drawn reading start (objAttrs (record { first = attr0; second = attr1; third = third })) line ≡ false) ⌝ }
 {
     let objtype = attr0 / 0x100 % 4;
     if objtype == 2 {
         return true;
     }
-    let top = ((attr0 % 0x100) as usize + Y_BIAS) % 256;
-    !is_inside(line + Y_BIAS, top, tallest(objtype))
+    let height = packed_box_height(objtype, attr1 / 0x4000 % 4, attr0 / 0x4000 % 4);
+    let row = (line + 256 - (attr0 % 0x100) as usize) % 256;
+    height <= row
 }

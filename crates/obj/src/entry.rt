@@ -6,6 +6,7 @@ ghost use Prim.Native.Nat.{_≤_, _<_};
 ghost use lib.ListN.{length};
 ghost use Rattle.rows.specs.Cells.{cellAt, putCell};
 ghost use Rattle.obj.specs.Entry.{entriesSize, entryCells, resetEntry, resetRow, wellShaped, shapedRow};
+ghost use Rattle.obj.specs.Word.{entryOf};
 use memory::DISPLAY_WIDTH;
 use rgb15::Rgb15;
 use rows::word_at;
@@ -70,21 +71,14 @@ pub fn reset_row(entries: &mut [u8])
     }
 }
 
-// Whether an entry is one that draws leave.
-fn is_shaped(e: Entry) -> bool
-    ensures { λ t. ⌜ t ≡ wellShaped e ⌝ }
+// 1 for a word that isn't that of a well-shaped entry, else 0. Over a whole word each test is one mask: that nothing but
+// the window mark differs from the reset entry, or that no bit is set which an entry that shows a pixel has clear.
+fn fault(word: u32) -> u32
+    ensures { λ r. ⌜ (r ≡ cond (wellShaped (entryOf word)) 0 1) × (r ≤ 1) ⌝ }
 {
-    let color = e.color.0;
-    let blank = (e.priority == 4) & (color == Rgb15::TRANSPARENT.0) & !(e.marks / 0x1 % 2 == 1);
-    let shown = (e.priority <= 3) & (color <= 0x7fff);
-    (e.marks <= 3) & (blank | shown)
-}
-
-// 1 for an entry that is not well shaped, else 0.
-fn fault(e: Entry) -> u32
-    ensures { λ r. ⌜ (r ≡ cond (wellShaped e) 0 1) × (r ≤ 1) ⌝ }
-{
-    if is_shaped(e) { 0 } else { 1 }
+    let blank = word - 0x200_0000 * (word / 0x200_0000 % 2) == 0x4_8000;
+    let shown = (word / 0x8000 % 2 == 0) & (word / 0x4_0000 % 0x40 == 0) & (word / 0x400_0000 == 0);
+    if blank | shown { 0 } else { 1 }
 }
 
 // Whether every entry of a row is well shaped: the faults are counted, which is quicker than to stop at the first.
@@ -95,7 +89,7 @@ pub fn shaped_row(entries: &[u8]) -> bool
     let mut faults: u32 = 0;
     let mut k: usize = 0;
     while k < DISPLAY_WIDTH {
-        faults += fault(entry_at(entries, k));
+        faults += fault(word_at(entries, k));
         k += 1;
     }
     faults == 0

@@ -1,7 +1,7 @@
 // Sprites (gpu/render/obj.rs). A sprite's attributes, the points of affine ones and the entries have files of their own.
 ghost use mathlib.Core.Path.{_≡_};
 ghost use mathlib.Core.Bool.{true};
-ghost use Prim.Native.Nat.{_-_, _^_, _≤_, _<_, min};
+ghost use Prim.Native.Nat.{_+_, _-_, _^_, _≤_, _<_, min};
 ghost use lib.IntN.{subℕ};
 ghost use lib.ListN.{length};
 ghost use Rattle.memory.specs.Sizes.{videoRamSize, paletteRamSize, oamSize, registersSize};
@@ -13,8 +13,9 @@ ghost use Rattle.obj.specs.Tiles.{tilesStart, texel};
 ghost use Rattle.obj.specs.Color.{flip, normalColor, colorAt, affineColor};
 ghost use Rattle.obj.specs.Turn.{pointAt, Ranged};
 ghost use Rattle.obj.specs.Sprite.{source, typedColor};
+ghost use Rattle.obj.specs.Skip.{NoneDrawn};
 ghost use Rattle.obj.specs.Entry.{entriesSize, entryCells};
-ghost use Rattle.obj.specs.Put.{passedOver, shownBy, written, putPixel};
+ghost use Rattle.obj.specs.Put.{passedOver, shownBy, windowed, written, putPixel};
 ghost use Rattle.obj.specs.Put.{putColumn, putRow, spriteStep, rowAfter};
 
 mod affine;
@@ -124,40 +125,7 @@ fn put_column(entries: &mut [u8], attrs: ObjAttrs, column: usize, pixel_color: R
     put_entry(entries, column, put_obj_pixel(e, pixel_color, attrs));
 }
 
-// The colour at a point of an affine sprite, both coordinates larger by 2^16.
-fn color_at(
-    vram: &[u8],
-    palette: &[u8],
-    attrs: ObjAttrs,
-    reading: Reading,
-    mapping: ObjMapping,
-    x: usize,
-    y: usize,
-) -> Rgb15
-    requires { ⌜ (length (now vram) ≡ videoRamSize)
-        × (length (now palette) ≡ paletteRamSize)
-        × Decoded attrs ⌝ }
-    ensures { λ c.
-        ⌜ c .0
-        ≡ colorAt reading mapping (now (vram .entry)) (now (palette .entry)) attrs
-        (subℕ x (2 ^ 16)) (subℕ y (2 ^ 16)) ⌝ }
-{
-    if is_inside(x, POINT_BIAS, attrs.width) & is_inside(y, POINT_BIAS, attrs.height) {
-        read_texel(
-            vram,
-            palette,
-            attrs,
-            reading,
-            mapping,
-            x - POINT_BIAS,
-            y - POINT_BIAS,
-        )
-    } else {
-        Rgb15::TRANSPARENT
-    }
-}
-
-// Column i of an affine sprite's box, put at a column of the screen. The priority is tested before the texel is read.
+// Column i of an affine sprite's box, put at a column of the screen: nothing is read or put where its point is outside.
 fn render_affine_column(
     entries: &mut [u8],
     vram: &[u8],
@@ -184,13 +152,14 @@ fn render_affine_column(
         (subℕ (pointAt (turn .y) (turn .pc) i (attrs .height)) (2 ^ 16)))
         (now (entries .entry)) column ⌝ }
 {
-    if is_passed_over(entry_at(entries, column), attrs) {
-        return;
-    }
     let x = point_at(turn.x, turn.pa, i, attrs.width);
     let y = point_at(turn.y, turn.pc, i, attrs.height);
-    let pixel_color = color_at(vram, palette, attrs, reading, mapping, x, y);
-    put_column(entries, attrs, column, pixel_color);
+    if is_inside(x, POINT_BIAS, attrs.width) & is_inside(y, POINT_BIAS, attrs.height) {
+        let sprite_x = x - POINT_BIAS;
+        let sprite_y = y - POINT_BIAS;
+        let pixel_color = read_texel(vram, palette, attrs, reading, mapping, sprite_x, sprite_y);
+        put_column(entries, attrs, column, pixel_color);
+    }
 }
 
 // The pixels of an affine sprite whose box holds the line.
@@ -327,12 +296,7 @@ fn is_passed_over(e: Entry, attrs: ObjAttrs) -> bool
     ensures { λ r. ⌜ r ≡ passedOver (attrs .objmode) (attrs .priority) e ⌝ }
 {
     let objmode = attrs.objmode;
-    match objmode {
-        ObjMode::Normal => e.priority <= attrs.priority,
-        ObjMode::Sfx => e.priority <= attrs.priority,
-        ObjMode::Window => false,
-        ObjMode::Forbidden => e.priority <= attrs.priority,
-    }
+    !objmode.is_window() & (e.priority <= attrs.priority)
 }
 
 // The entry that shows a sprite's pixel; semi is the semi-transparent mark, 0 or 1.
@@ -347,23 +311,31 @@ fn shown_by(e: Entry, semi: u8, priority: u8, pixel_color: Rgb15) -> Entry
     }
 }
 
-// What a pixel that is opaque and not passed over makes of an entry.
+// The entry with the window mark set and all else as it was.
+fn windowed(e: Entry) -> Entry
+    ensures { λ r. ⌜ r ≡ windowed e ⌝ }
+{
+    let color = e.color;
+    Entry {
+        color,
+        priority: e.priority,
+        marks: e.marks / 4 * 4 + 2 + e.marks % 2,
+    }
+}
+
+// What a pixel that is opaque and not passed over makes of an entry. The mode is asked in turn: a `match` of its four arms
+// would be a jump at each column.
 fn write_obj_pixel(e: Entry, pixel_color: Rgb15, attrs: ObjAttrs) -> Entry
     ensures { λ r. ⌜ r ≡ written (attrs .objmode) (attrs .priority) («pixel_color» .0) e ⌝ }
 {
     let objmode = attrs.objmode;
-    match objmode {
-        ObjMode::Normal => shown_by(e, 0, attrs.priority, pixel_color),
-        ObjMode::Sfx => shown_by(e, 1, attrs.priority, pixel_color),
-        ObjMode::Window => {
-            let color = e.color;
-            Entry {
-                color,
-                priority: e.priority,
-                marks: e.marks / 4 * 4 + 2 + e.marks % 2,
-            }
-        }
-        ObjMode::Forbidden => e,
+    if !objmode.is_permitted() {
+        return e;
+    }
+    if objmode.is_window() {
+        windowed(e)
+    } else {
+        shown_by(e, objmode.semi(), attrs.priority, pixel_color)
     }
 }
 
@@ -407,17 +379,7 @@ fn render_typed_obj(
     match objtype {
         ObjType::Hidden => {}
         ObjType::Normal => render_normal_obj(entries, vram, palette, attrs, reading, mapping, line),
-        ObjType::Affine => render_affine_obj(
-            entries,
-            vram,
-            palette,
-            oam,
-            attrs,
-            reading,
-            mapping,
-            line,
-        ),
-        ObjType::AffineDoubleSize => render_affine_obj(
+        ObjType::Affine | ObjType::AffineDoubleSize => render_affine_obj(
             entries,
             vram,
             palette,
@@ -430,7 +392,7 @@ fn render_typed_obj(
     }
 }
 
-// The pixels of sprite obj. It is decoded only if its first halfword doesn't rule it out.
+// The pixels of sprite obj.
 fn render_obj(
     entries: &mut [u8],
     vram: &[u8],
@@ -462,9 +424,6 @@ fn render_obj(
         line obj)
         240 (now (entries .entry)) ⌝ }
 {
-    if is_ruled_out(read_16(oam, ATTRS_SIZE * obj), line) {
-        return;
-    }
     let attrs = read_obj_attrs(oam, obj);
     if attrs.is_drawn(reading, tiles_start, line) {
         render_typed_obj(entries, vram, palette, oam, attrs, reading, mapping, line);
@@ -482,7 +441,31 @@ fn obj_tiles_start(mode: u16) -> usize
     }
 }
 
-// The pixels of a line's sprites put in its row of entries.
+// Whether the first two halfwords of sprite obj rule it out on a line.
+fn is_obj_ruled_out(oam: &[u8], line: usize, obj: usize) -> bool
+    requires { ⌜ (length (now oam) ≡ oamSize) × (line < 160) × (obj < 128) ⌝ }
+    ensures { λ r. ⌜ (r ≡ true → NoneDrawn (now (oam .entry)) line obj (obj + 1)) ⌝ }
+{
+    let addr = ATTRS_SIZE * obj;
+    is_ruled_out(read_16(oam, addr), read_16(oam, addr + 2), line)
+}
+
+// The first sprite from `from` on that isn't ruled out on a line, or 128.
+fn next_obj(oam: &[u8], line: usize, from: usize) -> usize
+    requires { ⌜ (length (now oam) ≡ oamSize) × (line < 160) × (from ≤ 128) ⌝ }
+    ensures { λ r. ⌜ (from ≤ r) × (r ≤ 128) × NoneDrawn (now (oam .entry)) line from r ⌝ }
+{
+    let mut obj = from;
+    while obj < OBJ_COUNT {
+        if !is_obj_ruled_out(oam, line, obj) {
+            return obj;
+        }
+        obj += 1;
+    }
+    obj
+}
+
+// The pixels of a line's sprites put in its row of entries. A sprite is decoded only if it isn't ruled out.
 pub fn render_objs(
     entries: &mut [u8],
     vram: &[u8],
@@ -513,7 +496,7 @@ pub fn render_objs(
     let dispcnt = read_dispcnt(registers);
     let mapping = dispcnt.obj_mapping();
     let tiles_start = obj_tiles_start(dispcnt.mode);
-    let mut obj: usize = 0;
+    let mut obj = next_obj(oam, line, 0);
     while obj < OBJ_COUNT {
         render_obj(
             entries,
@@ -526,6 +509,6 @@ pub fn render_objs(
             line,
             obj,
         );
-        obj += 1;
+        obj = next_obj(oam, line, obj + 1);
     }
 }

@@ -1,10 +1,10 @@
 -- Laws of registers. No contract cites this file. Assumes nothing.
 -- What holds of a field's bits, as mode w < 8 or charBlock (characterBaseBlock w) ≤ 0xc000, `omega` reads with no law.
-use Prim.Native.Nat.{ℕ, zero, suc, _+_, _≤_, _<_}
+use Prim.Native.Nat.{ℕ, zero, suc, _+_, _/_, _≤_, _<_}
 use native.Mathlib.Nat.{le-refl, eq-zero-or-pos}
 use native.Mathlib.Omega.{arith}
 use mathlib.Core.Logic.{_⊎_, inl, inr, ⊎-elim}
-use mathlib.Core.Path.{_≡_, refl, ap₂}
+use mathlib.Core.Path.{_≡_, refl, ap, ap₂, _∙_}
 use mathlib.Core.Bool.{Bool, true, false, _||_, _&&_, or-false, and-false, and-eq-true-iff}
 use lib.Dec.{leb, ltb}
 use lib.ListN.{getD}
@@ -13,7 +13,7 @@ use Rattle.bits.specs.Bits.{bits, bit}
 use Rattle.memory.proofs.Laws.{split}
 use Rattle.regs.specs.Display.{enableBg}
 use Rattle.regs.specs.Background.{regularWidth, regularHeight}
-use Rattle.regs.specs.Windows.{farEdge, inside, permits, everything}
+use Rattle.regs.specs.Windows.{left, right, top, bottom, WindowOf, farEdge, inside, permits, everything}
 use Rattle.regs.specs.Layers.{backgroundLayer, layerBit}
 use Rattle.regs.specs.Reading.{counted}
 use Rattle.regs.specs.declared.layer.RenderLayerKind.{RenderLayerKind}
@@ -27,6 +27,7 @@ use Rattle.regs.specs.declared.layer.RenderLayerKind.the-variants.{
 }
 use Rattle.regs.specs.declared.reading.Reading.{Reading}
 use Rattle.regs.specs.declared.reading.Reading.the-variants.{R, H}
+use Rattle.regs.specs.declared.window.Window.{Window}
 
 -- Background bg is on by bit 8 + bg.
 pub at-enableBg : (w bg : ℕ) → bg < 4 → getD (enableBg w) bg false ≡ bit (8 + bg) w
@@ -152,3 +153,19 @@ counted-small H weight small = omega arith
 pub inside-is : (screen near far at : ℕ) {n f : ℕ} → n ≡ near → f ≡ farEdge screen near far
     → (leb n at && ltb at f) ≡ inside screen near far at
 inside-is screen near far at n-is f-is = ap₂ (λ n f. leb n at && ltb at f) n-is f-is
+
+-- A window, by its words and its flags as they are read.
+pub windowOf-is : {w : Window} {h v flags h₀ v₀ flags₀ : ℕ} → WindowOf h v flags w → h ≡ h₀ → v ≡ v₀ → flags ≡ flags₀
+    → WindowOf h₀ v₀ flags₀ w
+windowOf-is p h-is v-is flags-are =
+    record {
+      left-is = p .left-is ∙ ap left h-is;
+      right-is = p .right-is ∙ ap right h-is;
+      top-is = p .top-is ∙ ap top v-is;
+      bottom-is = p .bottom-is ∙ ap bottom v-is;
+      flags-are = p .flags-are ∙ flags-are;
+    }
+
+-- Flags of the high byte, by the word as it is read.
+pub high-flags : {flags word read : ℕ} → flags ≡ bits 5 0 (read / 0x100) → read ≡ word → flags ≡ bits 13 8 word
+high-flags flags-are read-is = omega arith

@@ -1,32 +1,60 @@
--- obj::render_affine_column meets its contract: an entry that passes the sprite over stays, else the calls give the colour.
+-- obj::render_affine_column meets its contract: both tests are those of colorAt, and a transparent pixel puts nothing.
 -- Assumes nothing.
-use Prim.Native.Nat.{_^_}
-use mathlib.Core.Path.{ap₂, _∙_}
-use lib.IntN.{subℕ}
+use Prim.Native.Nat.{_+_, _^_, _≤_, _<_}
 use native.Mathlib.Omega.{arith}
-use Rattle.obj.specs.Color.{colorAt}
-use Rattle.obj.proofs.Pixels.{putColumn-is, putColumn-passed}
+use borrow.Author.Needs.{needs}
+use Rattle.obj.specs.Turn.{pointAt}
+use Rattle.obj.proofs.Colors.{colorAt-bounds, colorAt-inside, colorAt-outside}
+use Rattle.obj.proofs.Pixels.{putColumn-is, putColumn-transparent}
 use Rattle.obj.proofs.render_affine_column.Statement.{statement}
 use Rattle.obj.proofs.render_affine_column.Tie as tie
 
+bounds : (c : tie.Then1)
+    → let placed = c .before .before .before in
+    let x = placed .before .point-at .result in
+    let y = placed .point-at2 .result in
+    let attrs = placed .before .before .before .before .before .args .attrs in
+    ((2 ^ 16 ≤ x) × (x < 2 ^ 16 + attrs .width)) × ((2 ^ 16 ≤ y) × (y < 2 ^ 16 + attrs .height))
+bounds c =
+    let at = c .before .before .before .before .before .before .before .before .args in
+    colorAt-bounds (at .reading) (at .mapping) (at .vram .now) (at .palette .now) (at .attrs) _ _ (2 ^ 16)
+    (c .before .before .is-inside .ensures) (c .before .is-inside2 .ensures) (c .if1 .taken)
+
+sub-sprite-x : tie.Need-sub-sprite-x
+sub-sprite-x c = omega (arith, bounds c)
+
+sub-sprite-y : tie.Need-sub-sprite-y
+sub-sprite-y c = omega (arith, bounds c)
+
+read-texel-requires : tie.Need-read-texel-requires
+read-texel-requires c κs = let inside = bounds c in search needs
+
 returns : tie.Need-returns
 returns c =
-    let known = c .before .before .before .before .before .before in
-    let at = known .before .args in
-    putColumn-passed (at .attrs) _ (at .entries .now) (at .column) (known .slice-known .given)
-    (c .before .before .entry-at .ensures) (c .before .is-passed-over .ensures) (c .if1 .taken)
+    let read = c .before .before .before .before in
+    let tested = read .before .before in
+    let placed = tested .before .before in
+    let at = placed .before .before .before .before .before .args in
+    putColumn-is (at .attrs) (at .entries .now) (at .column) (c .before .before .put-column .ensures)
+    (colorAt-inside (at .reading) (at .mapping) (at .vram .now) (at .palette .now) (at .attrs) _ _ (2 ^ 16)
+    (tested .before .is-inside .ensures) (tested .is-inside2 .ensures)
+    {p = pointAt (at .turn .x) (at .turn .pa) (at .i) (at .attrs .width)}
+    {q = pointAt (at .turn .y) (at .turn .pc) (at .i) (at .attrs .height)}
+    (placed .before .point-at .ensures) (placed .point-at2 .ensures) (read .before .if1 .taken)
+    (read .read-texel .ensures))
 
 returns-2 : tie.Need-returns-2
 returns-2 c =
-    let colored = c .before .before .before .before in
-    let at = colored .before .before .before .before .before .before .before .before .before .before .args in
-    putColumn-is (at .attrs) (at .entries .now) (at .column) (c .before .before .put-column .ensures)
-    (colored .color-at .ensures
-    ∙ ap₂
-    (λ x y.
-    colorAt (at .reading) (at .mapping) (at .vram .now) (at .palette .now) (at .attrs)
-    (subℕ x (2 ^ 16)) (subℕ y (2 ^ 16)))
-    (colored .before .before .point-at .ensures) (colored .before .point-at2 .ensures))
+    let tested = c .before in
+    let placed = tested .before .before in
+    let known = placed .before .before .before .before in
+    let at = known .before .args in
+    putColumn-transparent (at .attrs) (at .entries .now) (at .column) (known .slice-known .given)
+    (colorAt-outside (at .reading) (at .mapping) (at .vram .now) (at .palette .now) (at .attrs) _ _ (2 ^ 16)
+    (tested .before .is-inside .ensures) (tested .is-inside2 .ensures)
+    {p = pointAt (at .turn .x) (at .turn .pa) (at .i) (at .attrs .width)}
+    {q = pointAt (at .turn .y) (at .turn .pc) (at .i) (at .attrs .height)}
+    (placed .before .point-at .ensures) (placed .point-at2 .ensures) (c .if1 .left))
 
 pub render-affine-column-spec : {M : Type 1} → statement M
 render-affine-column-spec =
@@ -34,11 +62,12 @@ render-affine-column-spec =
     (tie.spec
     (λ c κs. omega arith)
     (λ c κs. omega arith)
+    (λ c κs. omega arith)
+    (λ c κs. omega arith)
+    sub-sprite-x
+    sub-sprite-y
+    read-texel-requires
+    (λ c κs. omega arith)
     (λ c. omega arith)
     returns
-    (λ c κs. omega arith)
-    (λ c κs. omega arith)
-    (λ c κs. omega arith)
-    (λ c κs. omega arith)
-    (λ c. omega arith)
     returns-2)

@@ -1,9 +1,11 @@
 -- obj::render_affine_obj meets its contract: a turn puts the colour at its point, and no column outside the box has one.
 -- Assumes nothing.
-use Prim.Native.Nat.{_-_}
+use Prim.Native.Nat.{_+_, _-_, _^_}
+use lib.IntN.{subℕ}
 use native.Mathlib.Omega.{arith}
 use borrow.Author.Needs.{needs}
-use Rattle.obj.specs.Color.{affineColor}
+use Rattle.obj.specs.Color.{colorAt, affineColor}
+use Rattle.obj.specs.Turn.{pointAt}
 use Rattle.obj.specs.Oam.{matrix}
 use Rattle.obj.proofs.Colors.{affineColor-inside, affineColor-outside}
 use Rattle.obj.proofs.Pixels.{PutPart, putPart-from, putPart-inside, putPart-to}
@@ -29,7 +31,13 @@ loop-again c =
     let made = turn .before .before in
     let at = made .before .before .before .before .before .before .before .before .before .args in
     let left = made .before .before .before .before .left in
-    putPart-inside (at .attrs) _ (turn .before .loop .inv) (omega arith) (omega arith)
+    let i = turn .before .loop .column + 272 - left .result in
+    let set = made .turn-line .result in
+    putPart-inside (at .attrs) _
+    {z = colorAt (at .reading) (at .mapping) (at .vram .now) (at .palette .now) (at .attrs)
+    (subℕ (pointAt (set .x) (set .pa) i (at .attrs .width)) (2 ^ 16))
+    (subℕ (pointAt (set .y) (set .pc) i (at .attrs .height)) (2 ^ 16))}
+    (turn .before .loop .inv) (omega arith) (omega arith)
     (c .before .before .render-affine-column .ensures)
     (affineColor-inside (at .reading) (at .mapping) (at .vram .now) (at .palette .now) (at .attrs) (at .line)
     (left .result) (left .ensures .0) _ _ (made .turn-line .ensures)

@@ -1,9 +1,10 @@
 -- obj::render_normal_obj meets its contract: a turn puts its column's texel, and no column outside the box has a pixel.
 -- Assumes nothing.
-use Prim.Native.Nat.{_-_}
+use Prim.Native.Nat.{_+_, _-_}
 use native.Mathlib.Omega.{arith}
 use borrow.Author.Needs.{needs}
-use Rattle.obj.specs.Color.{normalColor}
+use Rattle.obj.specs.Tiles.{texel}
+use Rattle.obj.specs.Color.{flip, normalColor}
 use Rattle.obj.proofs.Colors.{normalColor-inside, normalColor-outside}
 use Rattle.obj.proofs.Pixels.{PutPart, putPart-from, putPart-inside, putPart-to}
 use Rattle.obj.proofs.Places.{boxed-normal}
@@ -33,7 +34,11 @@ loop-again c =
     let made = turn .before .before in
     let at = made .before .before .before .before .before .before .before .before .before .args in
     let left = made .before .before .before .before .before .left in
-    putPart-inside (at .attrs) _ (turn .before .loop .inv) (omega arith) (omega arith)
+    let x = turn .before .loop .column + 272 - left .result in
+    putPart-inside (at .attrs) _
+    {z = texel (at .reading) (at .mapping) (at .vram .now) (at .palette .now) (at .attrs)
+    (flip (at .attrs .«h_flip») (at .attrs .width) x) (made .flip .result)}
+    (turn .before .loop .inv) (omega arith) (omega arith)
     (c .before .before .render-normal-column .ensures)
     (normalColor-inside (at .reading) (at .mapping) (at .vram .now) (at .palette .now) (at .attrs) (at .line)
     (left .result) (left .ensures .0) (made .before .row .result) (turn .before .loop .column)

@@ -1,38 +1,36 @@
--- obj::render_objs meets its contract: each turn is one sprite's step at every column.
+-- obj::render_objs meets its contract: each turn is one sprite's step at every column, and those passed by have none.
 -- Assumes nothing.
 use Prim.Native.Nat.{_-_}
 use native.Mathlib.Omega.{arith}
-use Rattle.rows.proofs.Passed.{Composed, composed-none, composed-more, composed-all}
+use Rattle.rows.proofs.Passed.{composed-all}
 use Rattle.obj.specs.Entry.{entryCells}
-use Rattle.obj.specs.Put.{entryUpTo}
-use Rattle.obj.proofs.Entries.{exact-entryCells}
-use Rattle.obj.proofs.Steps.{entryUpTo-none, entryUpTo-more, source-is, rowAfter-is}
+use Rattle.obj.proofs.Steps.{SpritesUpTo, sprites-first, sprites-next, source-is, rowAfter-is}
 use Rattle.obj.proofs.render_objs.Statement.{statement}
 use Rattle.obj.proofs.render_objs.Tie as tie
 
 abbrev Inv-loop : tie.InvT-loop
 Inv-loop entries₀ vram palette oam registers reading line mapping tiles-start obj₀ entries obj =
-    Composed entryCells
-    (entryUpTo reading (record { vram = vram; palette = palette; oam = oam; mapping = mapping; start = tiles-start }) line)
-    240 128 entries₀ obj entries
+    SpritesUpTo reading
+    (record { vram = vram; palette = palette; oam = oam; mapping = mapping; start = tiles-start }) line
+    entries₀ obj entries
 
 abbrev μ-loop : tie.MeasureT-loop
 μ-loop entries₀ vram palette oam registers reading line mapping tiles-start obj₀ entries obj = 128 - obj
 
 loop-holds : tie.Need-loop-holds Inv-loop μ-loop
 loop-holds c =
-    let known = c .before .before .before .before .before .before .before in
-    composed-none entryCells (omega arith) (λ k k<. exact-entryCells _ (known .slice-known .given) k) (entryUpTo-none _ _ _)
+    let known = c .before .before .before .before .before .before .before .before in
+    sprites-first _ _ _ (omega arith) (known .slice-known .given) (c .next-obj .ensures)
 
 loop-again : tie.Need-loop-again Inv-loop μ-loop
 loop-again c =
-    composed-more entryCells _ (c .before .before .before .before .before .loop .inv) (omega arith)
-    (c .before .before .render-obj .ensures)
-    (λ k k< e. entryUpTo-more _ _ _ _ k e)
+    let put = c .before .before .before in
+    sprites-next _ _ _ (put .before .before .before .loop .inv) (omega arith) (put .render-obj .ensures)
+    (c .next-obj2 .ensures)
 
 returns : tie.Need-returns Inv-loop μ-loop
 returns c =
-    let made = c .before .before in
+    let made = c .before .before .before in
     let at = made .before .before .before .before .before .before .before .before .args in
     rowAfter-is (at .reading) (at .line) (at .entries .now) (omega arith)
     (composed-all entryCells (c .before .loop .inv) (omega arith))
@@ -48,9 +46,11 @@ render-objs-spec =
     (λ c κs. omega arith)
     (λ c κs. omega arith)
     (λ c κs. omega arith)
+    (λ c κs. omega arith)
     loop-holds
     (λ c κs. omega arith)
     (λ c. omega arith)
+    (λ c κs. omega arith)
     (λ c. omega arith)
     loop-again
     (λ c. omega arith)

@@ -4,7 +4,7 @@ use native.Mathlib.Omega.{arith}
 use borrow.Author.Needs.{needs}
 use Rattle.obj.specs.Sprite.{typedColor}
 use Rattle.obj.proofs.Pixels.{putRow-none}
-use Rattle.obj.proofs.Steps.{putRow-typed}
+use Rattle.obj.proofs.Steps.{putRow-typed, putRow-affine}
 use Rattle.obj.proofs.render_typed_obj.Statement.{statement}
 use Rattle.obj.proofs.render_typed_obj.Tie as tie
 
@@ -26,20 +26,12 @@ returns-2 c =
     (c .before .before .before .before .enum-told2 .given .1) (c .before .before .render-normal-obj .ensures)
 
 returns-3 : tie.Need-returns-3
-unfolding typedColor
 returns-3 c =
-    let at = c .before .before .before .before .before .before .before .before .before .before .args in
-    putRow-typed (at .reading) (at .mapping) (at .vram .now) (at .palette .now) (at .oam .now) (at .attrs) (at .line)
+    let told = c .before .before .before .before in
+    let at = told .before .before .before .before .before .args in
+    putRow-affine (at .reading) (at .mapping) (at .vram .now) (at .palette .now) (at .oam .now) (at .attrs) (at .line)
     (at .entries .now)
-    (c .before .before .before .before .enum-told3 .given .1) (c .before .before .render-affine-obj .ensures)
-
-returns-4 : tie.Need-returns-4
-unfolding typedColor
-returns-4 c =
-    let at = c .before .before .before .before .before .before .before .before .before .before .args in
-    putRow-typed (at .reading) (at .mapping) (at .vram .now) (at .palette .now) (at .oam .now) (at .attrs) (at .line)
-    (at .entries .now)
-    (c .before .before .before .before .enum-told4 .given .1) (c .before .before .render-affine-obj2 .ensures)
+    (at .attrs .objtype) (told .match .keys3) (c .before .before .render-affine-obj .ensures)
 
 pub render-typed-obj-spec : {M : Type 1} → statement M
 render-typed-obj-spec =
@@ -48,14 +40,9 @@ render-typed-obj-spec =
     (λ c. omega arith)
     (λ c. omega arith)
     (λ c κs. search needs)
-    (λ c. omega arith)
-    (λ c κs. search needs)
-    (λ c. omega arith)
     (λ c κs. search needs)
     returns
     (λ c. omega arith)
     returns-2
     (λ c. omega arith)
-    returns-3
-    (λ c. omega arith)
-    returns-4)
+    returns-3)

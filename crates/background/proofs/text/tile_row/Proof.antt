@@ -1,21 +1,32 @@
--- background::text::tile_row meets its contract: its eight calls give the row's eight colours.
+-- background::text::tile_row meets its contract: an empty row is transparent, and any other is what its eight calls give.
 -- Assumes nothing.
 use native.Mathlib.Omega.{arith}
 use borrow.Author.Needs.{needs}
+use Rattle.background.proofs.Empty.{tileRow-empty}
 use Rattle.background.proofs.Lines.{row-is}
 use Rattle.background.proofs.text.tile_row.Statement.{statement}
 use Rattle.background.proofs.text.tile_row.Tie as tie
 
-tile-color-requires-7 : tie.Need-tile-color-requires-7
-tile-color-requires-7 c κs = search needs
+returns : tie.Need-returns
+returns c = tileRow-empty _ _ _ _ _ _ (c .before .is-empty-row .ensures) (c .if1 .taken)
 
-tile-color-requires-8 : tie.Need-tile-color-requires-8
-tile-color-requires-8 c κs =
+tile-color-requires-6 : tie.Need-tile-color-requires-6
+tile-color-requires-6 c κs =
     let pre = c .before .before .before .before .before .before .before .before .before .pre in
     (pre .0, pre .1, omega arith, pre .2, pre .3)
 
-returns : tie.Need-returns
-returns c =
+tile-color-requires-7 : tie.Need-tile-color-requires-7
+tile-color-requires-7 c κs =
+    let pre = c .before .before .before .before .before .before .before .before .before .before .pre in
+    (pre .0, pre .1, omega arith, pre .2, pre .3)
+
+tile-color-requires-8 : tie.Need-tile-color-requires-8
+tile-color-requires-8 c κs =
+    let pre = c .before .before .before .before .before .before .before .before .before .before .before .pre in
+    (pre .0, pre .1, omega arith, pre .2, pre .3)
+
+returns-2 : tie.Need-returns-2
+returns-2 c =
     let fourth = c .before .before .before .before in
     row-is _
     (fourth .before .before .before .tile-color .ensures)
@@ -32,11 +43,13 @@ tile-row-spec =
     tie.close
     (tie.spec
     (search needs)
+    returns
     (search needs)
     (search needs)
     (search needs)
     (search needs)
     (search needs)
+    tile-color-requires-6
     tile-color-requires-7
     tile-color-requires-8
-    returns)
+    returns-2)

@@ -1,32 +1,30 @@
--- obj::attrs::is_ruled_out meets its contract: type 2 is hidden, and a line that misses the tallest box misses the sprite's.
+-- obj::attrs::is_ruled_out meets its contract: type 2 is hidden, and the box of any other has the height that is tested.
 -- Assumes nothing.
+use Prim.Native.Nat.{_%_}
 use native.Mathlib.Omega.{arith}
-use mathlib.Core.Path.{sym, _∙_}
-use borrow.Author.Needs.{needs}
-use borrow.Author.Tests.{not-true}
-use Rattle.obj.proofs.Drawn.{drawn-type, drawn-box}
+use borrow.Author.Tests.{leb-true}
+use Rattle.obj.proofs.Drawn.{drawn-type, drawn-row}
 use Rattle.obj.proofs.attrs.is_ruled_out.Statement.{statement}
 use Rattle.obj.proofs.attrs.is_ruled_out.Tie as tie
 
 returns : tie.Need-returns
-returns c = λ t reading start second third. drawn-type reading start _ _ (c .if1 .taken)
-
-is-inside-requires : tie.Need-is-inside-requires
-is-inside-requires c κs = (omega arith, c .tallest .ensures .0)
+returns c = λ t reading start third. drawn-type reading start _ _ (c .if1 .taken)
 
 returns-2 : tie.Need-returns-2
 returns-2 c =
-    λ t reading start second third.
-    drawn-box reading start _ _ _ (omega arith) (c .before .tallest .ensures .1) (sym (c .is-inside .ensures) ∙ not-true _ t)
+    λ t reading start third.
+    let y = c .before .before .args .attr0 % 256 in
+    let past = leb-true (c .packed-box-height .result) _ t in
+    drawn-row reading start _ _ {y = y} (c .packed-box-height .ensures) (omega arith) (c .before .before .pre)
+    (omega (arith, past))
 
 pub is-ruled-out-spec : {M : Type 1} → statement M
 is-ruled-out-spec =
     tie.close
     (tie.spec
     returns
-    (search needs)
-    (search needs)
-    (search needs)
-    (search needs)
-    is-inside-requires
+    (λ c κs. omega arith)
+    (λ c. omega arith)
+    (λ c. omega arith)
+    (λ c. omega arith)
     returns-2)

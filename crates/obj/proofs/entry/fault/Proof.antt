@@ -1,15 +1,16 @@
--- obj::entry::fault meets its contract: the test is that of the choice.
+-- obj::entry::fault meets its contract: its tests of the word are those of the entry.
 -- Assumes nothing.
-use mathlib.Core.Path.{sym, _∙_}
-use borrow.Author.Needs.{needs}
+use mathlib.Core.Path.{refl, sym, _∙_}
+use native.Mathlib.Omega.{arith}
+use Rattle.obj.proofs.Shapes.{wellShaped-word}
 use Rattle.obj.proofs.entry.fault.Statement.{statement}
 use Rattle.obj.proofs.entry.fault.Tie as tie
 
 returns : tie.Need-returns
-returns c = rw (sym (c .before .is-shaped .ensures) ∙ c .if1 .taken) (search needs)
+returns c = rw (sym (wellShaped-word (c .before .args .word)) ∙ c .if1 .taken) (refl, omega arith)
 
 returns-2 : tie.Need-returns-2
-returns-2 c = rw (sym (c .before .is-shaped .ensures) ∙ c .if1 .left) (search needs)
+returns-2 c = rw (sym (wellShaped-word (c .before .args .word)) ∙ c .if1 .left) (refl, omega arith)
 
 pub fault-spec : {M : Type 1} → statement M
-fault-spec = tie.close (tie.spec (search needs) returns returns-2)
+fault-spec = tie.close (tie.spec (λ c. omega arith) (λ c. omega arith) returns returns-2)

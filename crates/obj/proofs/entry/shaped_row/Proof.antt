@@ -8,7 +8,7 @@ use native.Mathlib.Omega.{arith}
 use borrow.Author.Needs.{needs}
 use Rattle.rows.proofs.Tested.{Summed, summed-none, summed-more, summed-all}
 use Rattle.obj.specs.Entry.{wellShaped}
-use Rattle.obj.proofs.Entries.{faultAt, shapedRow-faults}
+use Rattle.obj.proofs.Entries.{entry-of-word, faultAt, shapedRow-faults}
 use Rattle.obj.proofs.entry.shaped_row.Statement.{statement}
 use Rattle.obj.proofs.entry.shaped_row.Tie as tie
 
@@ -23,8 +23,10 @@ loop-holds c = search (needs, summed-none)
 
 loop-again : tie.Need-loop-again Inv-loop μ-loop
 loop-again c =
+    let known = c .before .before .before .before in
     summed-more (c .before .before .before .loop .inv) (omega arith) (omega arith)
-    (c .fault .ensures .0 ∙ ap (λ e. cond (wellShaped e) 0 1) (c .before .entry-at .ensures))
+    (c .fault .ensures .0
+    ∙ ap (λ e. cond (wellShaped e) 0 1) (entry-of-word _ (known .shared-slice-known .given) _ (c .before .word-at .ensures)))
 
 returns : tie.Need-returns Inv-loop μ-loop
 returns c =
