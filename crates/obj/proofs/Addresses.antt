@@ -38,21 +38,20 @@ pub tileAt-is : (reading : Reading) (mapping : ObjMapping) (s : ObjAttrs) (x y :
 unfolding tileAt
 tileAt-is reading mapping s x y p q r = λ i. p i + q i * (x / 8 + r i * (y / 8))
 
--- A pixel whose address, index and bank were found.
-pub texel-is : (reading : Reading) (mapping : ObjMapping) (vram palette : List ℕ) (s : ObjAttrs) (x y : ℕ)
-    {addr index bank color : ℕ}
-    → addr ≡ tileAt reading mapping s x y
-    → index ≡ tilePixel vram addr (x % 8) (y % 8) (s .format)
-    → bank ≡ paletteBank (s .format) (s .bank)
+-- The colour of an index that was read.
+pub paletteColor-read : (palette : List ℕ) (bank : ℕ) {index pixel color : ℕ} → index ≡ pixel
     → color ≡ paletteColor palette 0x200 index bank
+    → color ≡ paletteColor palette 0x200 pixel bank
+paletteColor-read palette bank index-is color-is = color-is ∙ ap (λ index. paletteColor palette 0x200 index bank) index-is
+
+-- A pixel whose address and bank were found.
+pub texel-is : (reading : Reading) (mapping : ObjMapping) (vram palette : List ℕ) (s : ObjAttrs) (x y : ℕ)
+    {addr bank color : ℕ}
+    → addr ≡ tileAt reading mapping s x y
+    → bank ≡ paletteBank (s .format) (s .bank)
+    → color ≡ paletteColor palette 0x200 (tilePixel vram addr (x % 8) (y % 8) (s .format)) bank
     → color ≡ texel reading mapping vram palette s x y
 unfolding texel
-texel-is reading mapping vram palette s x y p q r e =
+texel-is reading mapping vram palette s x y p q e =
     e
-    ∙ ap₂ (paletteColor palette 0x200) (q ∙ ap (λ addr. tilePixel vram addr (x % 8) (y % 8) (s .format)) p) r
-
--- A pixel read at the column that was found.
-pub texel-moved : (reading : Reading) (mapping : ObjMapping) (vram palette : List ℕ) (s : ObjAttrs) (y : ℕ) {x z color : ℕ}
-    → x ≡ z → color ≡ texel reading mapping vram palette s x y → color ≡ texel reading mapping vram palette s z y
-texel-moved reading mapping vram palette s y x-is color-is =
-    color-is ∙ ap (λ x. texel reading mapping vram palette s x y) x-is
+    ∙ ap₂ (paletteColor palette 0x200) (ap (λ addr. tilePixel vram addr (x % 8) (y % 8) (s .format)) p) q

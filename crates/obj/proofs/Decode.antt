@@ -1,15 +1,20 @@
 -- Laws of decoded sprites. No contract cites this file. Assumes nothing.
-use Prim.Native.Nat.{ℕ, _+_, _*_, _^_, _≤_}
+use Prim.Native.Nat.{ℕ, _+_, _*_, _/_, _%_, _^_, _≤_, _<_}
 use native.Mathlib.Omega.{arith}
-use mathlib.Core.Path.{_≡_, sym, ap, _∙_}
+use mathlib.Core.Path.{_≡_, refl, sym, ap, ap₂, _∙_}
+use mathlib.Core.Bool.{true}
 use mathlib.Core.List.{List}
+use lib.Dec.{eqb}
 use lib.IntN.{subℕ}
+use borrow.Author.Tests.{eqb-true}
 use Rattle.bits.specs.Bits.{bits, bit}
 use Rattle.signed.specs.Signed.{signed16}
+use Rattle.rows.specs.Below.{allBelow}
+use Rattle.rows.proofs.Below.{allBelow-at}
 use Rattle.memory.specs.Memory.{half}
 use Rattle.regs.specs.Background.{tileFormat}
 use Rattle.obj.specs.Oam.{Attributes, attributes}
-use Rattle.obj.specs.Size.{objWidth, objHeight}
+use Rattle.obj.specs.Size.{widths, objWidth, objHeight}
 use Rattle.obj.specs.Attrs.{objType, objMode, objAttrs, sprite}
 use Rattle.obj.specs.declared.attrs.ObjAttrs.{ObjAttrs}
 
@@ -64,3 +69,21 @@ signed16-read w h r e p = ap signed16 (sym e) ∙ p
 pub priority-bound : (a : Attributes) → objAttrs a .priority ≤ 3
 unfolding objAttrs
 priority-bound a = omega arith
+
+-- Every width is one of whole tiles.
+widths-whole : allBelow (λ n. eqb (objWidth (n % 4) (n / 4) % 8) 0) 16 ≡ true
+unfolding objWidth widths allBelow
+widths-whole = refl
+
+objWidth-whole : (size shape : ℕ) → size < 4 → shape < 4 → objWidth size shape % 8 ≡ 0
+objWidth-whole size shape size< shape< =
+    let n = 4 * shape + size in
+    let size-is : size ≡ n % 4 = omega arith in
+    let shape-is : shape ≡ n / 4 = omega arith in
+    ap (λ width. width % 8) (ap₂ objWidth size-is shape-is)
+    ∙ eqb-true _ _ (allBelow-at _ 16 widths-whole n (omega arith))
+
+pub width-whole : (a : Attributes) {s : ObjAttrs} → s ≡ objAttrs a → s .width % 8 ≡ 0
+unfolding objAttrs
+width-whole a s-is =
+    ap (λ s. s .width % 8) s-is ∙ objWidth-whole (bits 15 14 (a .second)) (bits 15 14 (a .first)) (omega arith) (omega arith)

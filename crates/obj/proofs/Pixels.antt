@@ -10,7 +10,7 @@ use mir.Syntax.{w8}
 use mir.Val.{Fits}
 use Rattle.rgb15.specs.Colour.{transparent, isTransparent}
 use Rattle.rows.specs.Below.{between}
-use Rattle.rows.specs.Cells.{cellAt, putCell}
+use Rattle.rows.specs.Cells.{cellAt, putCell, only, mapRow}
 use Rattle.rows.proofs.Cells.{putCell-same, mapRow-cong, mapRow-same}
 use Rattle.rows.proofs.Passed.{PassedPart, passed-from, passed-inside, passed-to}
 use Rattle.obj.specs.Entry.{entryCells}
@@ -73,6 +73,11 @@ module _ (mode : ObjMode) (priority : ℕ) where
   unfolding putPixel
   putPixel-transparent e = rw (or-true (passedOver mode priority e))
 
+  -- A pixel that is passed over changes nothing.
+  putPixel-passed : (color : ℕ) (e : Entry) → passedOver mode priority e ≡ true → putPixel mode priority color e ≡ e
+  unfolding putPixel
+  putPixel-passed color e t = rw t
+
   module _ (color : ℕ) (e : Entry) {passed clear : Bool}
       (passed-is : passed ≡ passedOver mode priority e) (clear-is : clear ≡ isTransparent color) where
     -- Where either test holds the entry stays.
@@ -108,14 +113,28 @@ putColumn-transparent s entries column bytes color-is =
     ∙ ap (putCell entryCells entries column) (sym (putPixel-transparent (s .objmode) (s .priority) _))
     ∙ ap (λ z. putColumn s z entries column) (sym color-is)
 
+-- An entry for which the sprite is passed over stays, whatever the colour.
+pub putColumn-passed : (s : ObjAttrs) (color : ℕ) (entries : List ℕ) (column : ℕ) {e : Entry} {passed : Bool}
+    → ((i : ℕ) → Fits w8 (getD entries i 0))
+    → e ≡ cellAt entryCells entries column → passed ≡ passedOver (s .objmode) (s .priority) e → passed ≡ true
+    → entries ≡ putColumn s color entries column
+putColumn-passed s color entries column bytes e-is passed-is t =
+    sym (putCell-same entryCells entries column (exact-entryCells entries bytes column))
+    ∙ ap (putCell entryCells entries column)
+    (sym (putPixel-passed (s .objmode) (s .priority) color _
+    (ap (passedOver (s .objmode) (s .priority)) (sym e-is) ∙ sym passed-is ∙ t)))
+
 -- A sprite that has no pixel leaves the row.
-pub putRow-none : (s : ObjAttrs) (entries : List ℕ) → ((i : ℕ) → Fits w8 (getD entries i 0))
-    → entries ≡ putRow s (λ _. transparent) entries
-putRow-none s entries bytes =
+pub putRow-none : (s : ObjAttrs) (color : ℕ → ℕ) (entries : List ℕ) → ((i : ℕ) → Fits w8 (getD entries i 0))
+    → ((k : ℕ) → k < 240 → color k ≡ transparent)
+    → entries ≡ putRow s color entries
+putRow-none s color entries bytes none =
     sym
     (mapRow-same entryCells _ 240 entries
     (λ k k<. exact-entryCells entries bytes k)
-    (λ k k<. putPixel-transparent (s .objmode) (s .priority) _))
+    (λ k k<.
+    ap (λ c. putPixel (s .objmode) (s .priority) c (cellAt entryCells entries k)) (none k k<)
+    ∙ putPixel-transparent (s .objmode) (s .priority) _))
 
 -- ---- a loop over a sprite's columns
 
@@ -139,18 +158,26 @@ module _ (s : ObjAttrs) (color : ℕ → ℕ) where
       passed-inside entryCells part k< end≤ put-is
       (ap (λ z. putPixel (s .objmode) (s .priority) z (cellAt entryCells l k)) z-is)
 
+  -- Where the columns from start up to end were put, all are, if those have the sprite's colours and no other has a pixel.
+  pub putRow-part : (z : ℕ → ℕ) (start end : ℕ) (entries : List ℕ) {m : List ℕ}
+      → m ≡ mapRow entryCells (only (between start end) (λ k. putPixel (s .objmode) (s .priority) (z k))) 240 entries
+      → ((k : ℕ) → k < 240 → between start end k ≡ true → z k ≡ color k)
+      → ((k : ℕ) → k < 240 → between start end k ≡ false → color k ≡ transparent)
+      → m ≡ putRow s color entries
+  putRow-part z start end entries put-is same none =
+      put-is ∙ mapRow-cong entryCells _ _ 240 entries (λ k k< e. go k k< e (between start end k) refl)
+    where
+      go : (k : ℕ) → k < 240 → (e : Entry) (t : Bool) → between start end k ≡ t
+          → cond t (putPixel (s .objmode) (s .priority) (z k) e) e ≡ putPixel (s .objmode) (s .priority) (color k) e
+      go k k< e true t = ap (λ c. putPixel (s .objmode) (s .priority) c e) (same k k< t)
+      go k k< e false t =
+          sym (putPixel-transparent (s .objmode) (s .priority) e)
+          ∙ ap (λ c. putPixel (s .objmode) (s .priority) c e) (sym (none k k< t))
+
   -- Where the loop ends every column is put, if the sprite has no pixel in those that the loop left out.
   pub putPart-to : {start end k : ℕ} {entries₀ l : List ℕ}
       → PutPart start end entries₀ k l → end ≤ k
       → ((k : ℕ) → k < 240 → between start end k ≡ false → color k ≡ transparent)
       → l ≡ putRow s color entries₀
   putPart-to {start} {end} {entries₀ = entries₀} part k≤ none =
-      passed-to entryCells part k≤
-      ∙ mapRow-cong entryCells _ _ 240 entries₀ (λ k k< e. go k k< e (between start end k) refl)
-    where
-      go : (k : ℕ) → k < 240 → (e : Entry) (t : Bool) → between start end k ≡ t
-          → cond t (putPixel (s .objmode) (s .priority) (color k) e) e ≡ putPixel (s .objmode) (s .priority) (color k) e
-      go k k< e true t = refl
-      go k k< e false t =
-          sym (putPixel-transparent (s .objmode) (s .priority) e)
-          ∙ ap (λ c. putPixel (s .objmode) (s .priority) c e) (sym (none k k< t))
+      putRow-part color start end entries₀ (passed-to entryCells part k≤) (λ k k< t. refl) none

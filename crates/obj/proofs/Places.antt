@@ -2,15 +2,17 @@
 -- this file. Assumes nothing.
 use Prim.Native.Nat.{ℕ, suc, _+_, _-_, _%_, _≤_, _<_, min}
 use native.Mathlib.Omega.{arith}
-use mathlib.Core.Path.{_≡_, sym, ap, ap₂, _∙_}
-use mathlib.Core.Bool.{true, _&&_}
+use mathlib.Core.Path.{_≡_, refl, sym, ap, ap₂, _∙_}
+use mathlib.Core.Bool.{Bool, true, false, _&&_}
+use lib.Dec.{ltb}
 use lib.IntN.{ℤ, pos, subℕ, _-ℤ_}
-use borrow.Author.Tests.{lt-ltb, le-ltb, leb-true, ltb-true}
+use borrow.Author.Tests.{lt-ltb, le-ltb, leb-true, ltb-true, ltb-false}
 use Rattle.signed.specs.Signed.{within}
 use Rattle.signed.proofs.Difference.{View, up, down, view, subℕ-view, subℕ-cross, sub-pos-subℕ}
 use Rattle.signed.proofs.Order.{and-both, leb-same}
 use Rattle.signed.proofs.Remainder.{within-subℕ}
 use Rattle.rows.specs.Below.{between}
+use Rattle.rows.proofs.Below.{between-before, between-past}
 use Rattle.regs.specs.declared.reading.Reading.{Reading}
 use Rattle.obj.specs.Place.{xOf, yOf, boxed, boxHeight, left, top, across, below, onLine}
 use Rattle.obj.specs.declared.attrs.ObjAttrs.{ObjAttrs}
@@ -43,6 +45,20 @@ pub within-bounds : (r bias m : ℕ) → within (subℕ r bias) m ≡ true → (
 within-bounds r bias m e =
     let both = and-both _ _ (sym (within-subℕ r bias m) ∙ e) in
     (leb-true bias r (both .0), ltb-true r (bias + m) (both .1))
+
+-- A column between two others lies from the first on and before the second.
+pub between-bounds : (start end column : ℕ) → between start end column ≡ true → (start ≤ column) × (column < end)
+unfolding between
+between-bounds start end column e =
+    let both = and-both _ _ e in (leb-true start column (both .0), ltb-true column end (both .1))
+
+-- No column lies between two others in the wrong order.
+pub between-none : (start end column : ℕ) → end ≤ start → between start end column ≡ false
+between-none start end column h = go (ltb column start) refl
+  where
+    go : (t : Bool) → ltb column start ≡ t → between start end column ≡ false
+    go true t = between-before start end column (ltb-true column start t)
+    go false t = between-past start end column (omega (arith, ltb-false column start t))
 
 -- The box of a normal sprite has its own size.
 pub boxed-normal : {type : ObjType} (side : ℕ) → type ≡ ObjType.Normal → boxed type side ≡ side

@@ -1,11 +1,16 @@
 // Sprites (gpu/render/obj.rs). A sprite's attributes, the points of affine ones and the entries have files of their own.
 ghost use mathlib.Core.Path.{_≡_};
 ghost use mathlib.Core.Bool.{true};
-ghost use Prim.Native.Nat.{_+_, _-_, _^_, _≤_, _<_, min};
+ghost use Prim.Native.Nat.{_+_, _-_, _*_, _/_, _%_, _^_, _≤_, _<_, min};
 ghost use lib.IntN.{subℕ};
-ghost use lib.ListN.{length};
+ghost use lib.ListN.{length, getD, take};
+ghost use Rattle.rgb15.specs.Colour.{rgb};
 ghost use Rattle.memory.specs.Sizes.{videoRamSize, paletteRamSize, oamSize, registersSize};
-ghost use Rattle.rows.specs.Cells.{mapRow};
+ghost use Rattle.memory.specs.Palette.{paletteColor};
+ghost use Rattle.memory.specs.Tiles.{colours, tilePixel};
+ghost use Rattle.rows.specs.Below.{between};
+ghost use Rattle.rows.specs.Cells.{only, mapRow};
+ghost use Rattle.rows.specs.Tab.{tab};
 ghost use Rattle.obj.specs.Oam.{matrix};
 ghost use Rattle.obj.specs.Attrs.{sprite, Decoded};
 ghost use Rattle.obj.specs.Place.{onLine};
@@ -38,6 +43,7 @@ pub use entry::put_entry;
 pub use entry::reset_row;
 pub use entry::shaped_row;
 use memory::DISPLAY_WIDTH;
+use memory::PixelFormat;
 use memory::get_palette_color;
 use memory::read_16;
 use memory::read_pixel_index;
@@ -69,6 +75,30 @@ pub fn read_obj_attrs(oam: &[u8], obj: usize) -> ObjAttrs
     )
 }
 
+// The colour of a pixel of the tile at `tile_addr`, from a bank of the sprites' half of the palette.
+fn tile_color(
+    vram: &[u8],
+    palette: &[u8],
+    tile_addr: usize,
+    x: usize,
+    y: usize,
+    format: PixelFormat,
+    bank: usize,
+) -> Rgb15
+    requires { ⌜ (length (now vram) ≡ videoRamSize)
+        × (length (now palette) ≡ paletteRamSize)
+        × («tile_addr» + 63 < videoRamSize)
+        × (x < 8)
+        × (y < 8)
+        × (16 * bank + colours format ≤ 256) ⌝ }
+    ensures { λ c.
+        ⌜ c .0
+        ≡ paletteColor (now (palette .entry)) 0x200 (tilePixel (now (vram .entry)) «tile_addr» x y format) bank ⌝ }
+{
+    let pixel_index = read_pixel_index(vram, tile_addr, x, y, format);
+    get_palette_color(palette, pixel_index, bank, PALRAM_OFS_FG)
+}
+
 // The colour of pixel (x, y) of a sprite.
 fn read_texel(
     vram: &[u8],
@@ -89,9 +119,8 @@ fn read_texel(
 {
     let format = attrs.format;
     let tile_addr = attrs.tile_at(reading, mapping, x, y);
-    let pixel_index = read_pixel_index(vram, tile_addr, x % 8, y % 8, format);
-    let palette_bank = format.palette_bank(attrs.bank);
-    get_palette_color(palette, pixel_index, palette_bank, PALRAM_OFS_FG)
+    let bank = format.palette_bank(attrs.bank);
+    tile_color(vram, palette, tile_addr, x % 8, y % 8, format, bank)
 }
 
 // The first column of the screen that a box covers, by its left edge plus 272.
@@ -125,7 +154,8 @@ fn put_column(entries: &mut [u8], attrs: ObjAttrs, column: usize, pixel_color: R
     put_entry(entries, column, put_obj_pixel(e, pixel_color, attrs));
 }
 
-// Column i of an affine sprite's box, put at a column of the screen: nothing is read or put where its point is outside.
+// Column i of an affine sprite's box, put at a column of the screen: nothing is read or put where its point is outside, and
+// where it is inside the entry is asked before the texel is read, which costs more.
 fn render_affine_column(
     entries: &mut [u8],
     vram: &[u8],
@@ -155,6 +185,9 @@ fn render_affine_column(
     let x = point_at(turn.x, turn.pa, i, attrs.width);
     let y = point_at(turn.y, turn.pc, i, attrs.height);
     if is_inside(x, POINT_BIAS, attrs.width) & is_inside(y, POINT_BIAS, attrs.height) {
+        if is_passed_over(entry_at(entries, column), attrs) {
+            return;
+        }
         let sprite_x = x - POINT_BIAS;
         let sprite_y = y - POINT_BIAS;
         let pixel_color = read_texel(vram, palette, attrs, reading, mapping, sprite_x, sprite_y);
@@ -216,35 +249,166 @@ fn flip(set: bool, side: usize, at: usize) -> usize
     if set { side - 1 - at } else { at }
 }
 
-// Column x of row sprite_y of a normal sprite, put at a column of the screen.
-fn render_normal_column(
-    entries: &mut [u8],
+// A row of a tile, from right to left if it is flipped.
+fn flip_row(row: [Rgb15; 8], flipped: bool) -> [Rgb15; 8]
+    requires { ⌜ length row ≡ 8 ⌝ }
+    ensures { λ r. ⌜ r ≡ tab (λ x. getD row (flip flipped 8 x) (rgb 0)) 8 ⌝ }
+{
+    if flipped {
+        [
+            row[7],
+            row[6],
+            row[5],
+            row[4],
+            row[3],
+            row[2],
+            row[1],
+            row[0],
+        ]
+    } else {
+        row
+    }
+}
+
+// The eight colours of a row of the tile at `tile_addr`, from right to left if it is flipped.
+fn tile_row(
+    vram: &[u8],
+    palette: &[u8],
+    tile_addr: usize,
+    y: usize,
+    format: PixelFormat,
+    bank: usize,
+    flipped: bool,
+) -> [Rgb15; 8]
+    requires { ⌜ (length (now vram) ≡ videoRamSize)
+        × (length (now palette) ≡ paletteRamSize)
+        × («tile_addr» + 63 < videoRamSize)
+        × (y < 8)
+        × (16 * bank + colours format ≤ 256) ⌝ }
+    ensures { λ r.
+        ⌜ r
+        ≡ tab
+        (λ x.
+        rgb
+        (paletteColor (now (palette .entry)) 0x200
+        (tilePixel (now (vram .entry)) «tile_addr» (flip flipped 8 x) y format) bank))
+        8 ⌝ }
+{
+    let row = [
+        tile_color(vram, palette, tile_addr, 0, y, format, bank),
+        tile_color(vram, palette, tile_addr, 1, y, format, bank),
+        tile_color(vram, palette, tile_addr, 2, y, format, bank),
+        tile_color(vram, palette, tile_addr, 3, y, format, bank),
+        tile_color(vram, palette, tile_addr, 4, y, format, bank),
+        tile_color(vram, palette, tile_addr, 5, y, format, bank),
+        tile_color(vram, palette, tile_addr, 6, y, format, bank),
+        tile_color(vram, palette, tile_addr, 7, y, format, bank),
+    ];
+    flip_row(row, flipped)
+}
+
+// The eight colours of row y of a normal sprite's tile t, counted from the left as shown.
+fn shown_tile(
     vram: &[u8],
     palette: &[u8],
     attrs: ObjAttrs,
     reading: Reading,
     mapping: ObjMapping,
-    sprite_y: usize,
-    column: usize,
-    x: usize,
-)
-    requires { ⌜ (length (now entries) ≡ entriesSize)
-        × (length (now vram) ≡ videoRamSize)
+    y: usize,
+    t: usize,
+) -> [Rgb15; 8]
+    requires { ⌜ (length (now vram) ≡ videoRamSize)
         × (length (now palette) ≡ paletteRamSize)
         × Decoded attrs
-        × («sprite_y» < attrs .height)
-        × (column < 240)
-        × (x < attrs .width) ⌝ }
+        × (attrs .width % 8 ≡ 0)
+        × (y < attrs .height)
+        × (t < attrs .width / 8) ⌝ }
+    ensures { λ r.
+        ⌜ r
+        ≡ tab
+        (λ k.
+        rgb
+        (texel reading mapping (now (vram .entry)) (now (palette .entry)) attrs
+        (flip (attrs .«h_flip») (attrs .width) (8 * t + k)) y))
+        8 ⌝ }
+{
+    let format = attrs.format;
+    let bank = format.palette_bank(attrs.bank);
+    let tile = flip(attrs.h_flip, attrs.width / 8, t);
+    let tile_addr = attrs.tile_at(reading, mapping, 8 * tile, y);
+    tile_row(vram, palette, tile_addr, y % 8, format, bank, attrs.h_flip)
+}
+
+// The colours of row y of a normal sprite, column by column as shown. It goes by whole tiles, which is twice as quick as a
+// texel for each column; columns past the sprite's width mean nothing.
+fn texel_row(
+    vram: &[u8],
+    palette: &[u8],
+    attrs: ObjAttrs,
+    reading: Reading,
+    mapping: ObjMapping,
+    y: usize,
+) -> [Rgb15; 64]
+    requires { ⌜ (length (now vram) ≡ videoRamSize)
+        × (length (now palette) ≡ paletteRamSize)
+        × Decoded attrs
+        × (attrs .width % 8 ≡ 0)
+        × (y < attrs .height) ⌝ }
+    ensures { λ r.
+        ⌜ take (attrs .width) r
+        ≡ tab
+        (λ x.
+        rgb
+        (texel reading mapping (now (vram .entry)) (now (palette .entry)) attrs
+        (flip (attrs .«h_flip») (attrs .width) x) y))
+        (attrs .width) ⌝ }
+{
+    let tiles = attrs.width / 8;
+    let mut row = [Rgb15::TRANSPARENT; 64];
+    let mut t: usize = 0;
+    while t < tiles {
+        let eight = shown_tile(vram, palette, attrs, reading, mapping, y, t);
+        let i = 8 * t;
+        row[i] = eight[0];
+        row[i + 1] = eight[1];
+        row[i + 2] = eight[2];
+        row[i + 3] = eight[3];
+        row[i + 4] = eight[4];
+        row[i + 5] = eight[5];
+        row[i + 6] = eight[6];
+        row[i + 7] = eight[7];
+        t += 1;
+    }
+    row
+}
+
+// A row of a sprite's colours put in the columns from start up to end, by the box's left edge plus 272. Nothing else is
+// read in the loop, so that it becomes one over vectors.
+fn put_row(
+    entries: &mut [u8],
+    attrs: ObjAttrs,
+    row: [Rgb15; 64],
+    left: usize,
+    start: usize,
+    end: usize,
+)
+    requires { ⌜ (length (now entries) ≡ entriesSize)
+        × (start ≤ end)
+        × (end ≤ 240)
+        × (left ≤ start + 272)
+        × (end + 272 ≤ left + 64) ⌝ }
     ensures { λ _.
         ⌜ now (entries .exit)
-        ≡ putColumn attrs
-        (texel reading mapping (now (vram .entry)) (now (palette .entry)) attrs
-        (flip (attrs .«h_flip») (attrs .width) x) «sprite_y»)
-        (now (entries .entry)) column ⌝ }
+        ≡ mapRow entryCells
+        (only (between start end)
+        (λ column. putPixel (attrs .objmode) (attrs .priority) (getD row (column + 272 - left) (rgb 0) .0)))
+        240 (now (entries .entry)) ⌝ }
 {
-    let sprite_x = flip(attrs.h_flip, attrs.width, x);
-    let pixel_color = read_texel(vram, palette, attrs, reading, mapping, sprite_x, sprite_y);
-    put_column(entries, attrs, column, pixel_color);
+    let mut column = start;
+    while column < end {
+        put_column(entries, attrs, column, row[column + X_BIAS - left]);
+        column += 1;
+    }
 }
 
 // The pixels of a normal sprite whose box holds the line.
@@ -261,6 +425,7 @@ fn render_normal_obj(
         × (length (now vram) ≡ videoRamSize)
         × (length (now palette) ≡ paletteRamSize)
         × Decoded attrs
+        × (attrs .width % 8 ≡ 0)
         × (attrs .objtype ≡ ObjType.Normal)
         × (line < 160)
         × (onLine reading attrs line ≡ true) ⌝ }
@@ -273,22 +438,12 @@ fn render_normal_obj(
     let left = attrs.left(reading);
     let start = first_column(left);
     let end = end_column(left + attrs.width);
-    let sprite_y = flip(attrs.v_flip, attrs.height, attrs.row(reading, line));
-    let mut column = start;
-    while column < end {
-        render_normal_column(
-            entries,
-            vram,
-            palette,
-            attrs,
-            reading,
-            mapping,
-            sprite_y,
-            column,
-            column + X_BIAS - left,
-        );
-        column += 1;
+    if end <= start {
+        return;
     }
+    let sprite_y = flip(attrs.v_flip, attrs.height, attrs.row(reading, line));
+    let row = texel_row(vram, palette, attrs, reading, mapping, sprite_y);
+    put_row(entries, attrs, row, left, start, end);
 }
 
 // Whether a sprite is passed over for what the entry holds.
@@ -366,6 +521,7 @@ fn render_typed_obj(
         × (length (now palette) ≡ paletteRamSize)
         × (length (now oam) ≡ oamSize)
         × Decoded attrs
+        × (attrs .width % 8 ≡ 0)
         × (line < 160)
         × (onLine reading attrs line ≡ true) ⌝ }
     ensures { λ _.

@@ -37,7 +37,6 @@ use Rattle.sfx.specs.Layers.{counts, objectCounts, firstTwo, placed, lay
 use Rattle.sfx.specs.Effects.{none, spriteBlend, isObject, controlEffect, effect, alpha, fade, effectColor}
 use Rattle.windows.specs.Region.{permitted}
 use Rattle.windows.specs.Row.{wordIn, regionAt, regionRow}
-use Rattle.windows.specs.declared.RegionWords.{RegionWords}
 use Rattle.windows.specs.declared.WindowType.{WindowType}
 use Rattle.windows.specs.declared.WindowType.the-variants.{Win0, Win1, WinObj, WinOut, WinNone}
 use Rattle.sfx.specs.Pixel.{caseIn, caseOf, caseColor, pixel}
@@ -427,13 +426,15 @@ module _ (palette registers at : List ℕ) {line : LineLayers} (line-is : LineLa
 -- ---- a line
 
 -- The words of the five regions, by the flags that were read of each.
-module _ (registers at : List ℕ) {objects : Bool} (objects-is : objects ≡ enableObj (dispcnt registers)) (words : RegionWords)
-    (win0 : words .win0 ≡ regionWord objects at (permitted registers Win0))
-    (win1 : words .win1 ≡ regionWord objects at (permitted registers Win1))
-    (winobj : words .winobj ≡ regionWord objects at (permitted registers WinObj))
-    (winout : words .winout ≡ regionWord objects at (permitted registers WinOut))
-    (winnone : words .winnone ≡ regionWord objects at (permitted registers WinNone)) where
-  wordIn-is : (kind : WindowType) → wordIn words kind ≡ regionWord (enableObj (dispcnt registers)) at (permitted registers kind)
+module _ (registers at : List ℕ) {objects : Bool} (objects-is : objects ≡ enableObj (dispcnt registers)) {p q r s t : ℕ}
+    (win0 : p ≡ regionWord objects at (permitted registers Win0))
+    (win1 : q ≡ regionWord objects at (permitted registers Win1))
+    (winobj : r ≡ regionWord objects at (permitted registers WinObj))
+    (winout : s ≡ regionWord objects at (permitted registers WinOut))
+    (winnone : t ≡ regionWord objects at (permitted registers WinNone)) where
+  wordIn-is : (kind : WindowType)
+      → wordIn (record { win0 = p; win1 = q; winobj = r; winout = s; winnone = t }) kind
+      ≡ regionWord (enableObj (dispcnt registers)) at (permitted registers kind)
   unfolding wordIn
   wordIn-is Win0 = win0 ∙ ap (λ o. regionWord o at (permitted registers Win0)) objects-is
   wordIn-is Win1 = win1 ∙ ap (λ o. regionWord o at (permitted registers Win1)) objects-is
@@ -441,10 +442,12 @@ module _ (registers at : List ℕ) {objects : Bool} (objects-is : objects ≡ en
   wordIn-is WinOut = winout ∙ ap (λ o. regionWord o at (permitted registers WinOut)) objects-is
   wordIn-is WinNone = winnone ∙ ap (λ o. regionWord o at (permitted registers WinNone)) objects-is
 
-  pub regions-are : (reading : Reading) (entries : List ℕ) (line : ℕ) {r : List ℕ}
-      → r ≡ regionRow reading registers entries line words
-      → r ≡ tab (columnRegion reading registers entries at line) 240
-  regions-are reading entries line r-is = r-is ∙ tab-cong _ _ 240 (λ column lt. wordIn-is _)
+  pub regions-are : (reading : Reading) (entries : List ℕ) (line : ℕ) {row : List ℕ}
+      → row
+      ≡ regionRow reading registers entries line
+      (record { win0 = p; win1 = q; winobj = r; winout = s; winnone = t })
+      → row ≡ tab (columnRegion reading registers entries at line) 240
+  regions-are reading entries line row-is = row-is ∙ tab-cong _ _ 240 (λ column lt. wordIn-is _)
 
 -- The row of a line, by its regions, its layers, its weights, its entries' tags and colours, and the pixels made of them.
 module _ (reading : Reading) (palette registers entries at : List ℕ) (line : ℕ) (line0 line1 line2 line3 : List Rgb15) where

@@ -78,7 +78,8 @@ pub record Lined (color : ℕ → ℕ → ℕ) (at : List ℕ) (line0 line1 line
 
 lineColor-tab : (f : ℕ → ℕ) {line : List Rgb15} (column : ℕ) → line ≡ tab (λ k. rgb (f k)) 240 → column < 240
     → lineColor line column ≡ f column
-lineColor-tab f column line-is column< = ap (λ (c : Rgb15). c .0) (getD-of-tab (λ k. rgb (f k)) 240 column (rgb 0) line-is column<)
+lineColor-tab f column line-is column< =
+    ap (λ (c : Rgb15). c .0) (getD-of-tab (λ k. rgb (f k)) 240 column (rgb 0) line-is column<)
 
 placedLayers-places : (registers : List ℕ) (color : ℕ → ℕ → ℕ) (line0 line1 line2 line3 : List Rgb15)
     → Lined color (places (ordered registers)) line0 line1 line2 line3

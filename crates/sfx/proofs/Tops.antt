@@ -23,8 +23,8 @@ use Rattle.regs.specs.declared.layer.RenderLayerKind.{RenderLayerKind}
 use Rattle.regs.specs.declared.layer.RenderLayerKind.the-variants.{Objects}
 use Rattle.sfx.specs.Places.{lineColor}
 use Rattle.sfx.specs.Words.{layerTag, placeTag, shows, goesOver, putTop, putBackground, putTopObject, putObject, topOf}
-use Rattle.sfx.specs.Words.{isBlended, fadedColor, pairColor, backgroundPair, backgroundTop, columnColor, topColor, atColumn}
-use Rattle.sfx.specs.Words.{LineLayersOf, Unmarked}
+use Rattle.sfx.specs.Words.{isBlended, fadedColor, pairColor, LineLayersOf, Unmarked}
+use Rattle.sfx.specs.Words.{backgroundPair, backgroundTop, columnColor, topColor, atColumn}
 use Rattle.sfx.specs.declared.Weights.{Weights}
 use Rattle.sfx.specs.declared.layer.LayerPair.{LayerPair}
 use Rattle.sfx.specs.declared.layer.LineLayers.{LineLayers}

@@ -4,10 +4,11 @@ use Prim.Native.Nat.{ℕ, _+_, _-_, _*_, _≤_, _<_}
 use mathlib.Core.Path.{_≡_, sym, ap, ap₂, _∙_}
 use mathlib.Core.Bool.{Bool, true, false, cond, _&&_}
 use mathlib.Core.List.{List}
+use native.Mathlib.Nat.{mul-le-mul-left}
 use native.Mathlib.Omega.{arith}
 use lib.Dec.{leb}
 use lib.ListN.{getD}
-use mir.Syntax.{w64}
+use mir.Syntax.{w16, w64}
 use mir.Val.{Fits}
 use borrow.Author.Tests.{lt-ltb, le-ltb}
 use Rattle.bits.specs.Bits.{bit}
@@ -17,7 +18,7 @@ use Rattle.memory.specs.Palette.{backdrop}
 use Rattle.regs.specs.Registers.{bgcnt, bldcnt, bldalpha, bldy}
 use Rattle.regs.specs.Blend.{BlendControlOf, BlendAlphaOf}
 use Rattle.regs.specs.Reading.{counted}
-use Rattle.regs.specs.Background.{BgControlOf}
+use Rattle.regs.specs.Background.{priority, BgControlOf}
 use Rattle.regs.specs.Layers.{backgroundLayer, targets}
 use Rattle.regs.specs.Windows.{permits}
 use Rattle.regs.specs.declared.BgControl.{BgControl}
@@ -29,7 +30,8 @@ use Rattle.regs.specs.declared.reading.Reading.{Reading}
 use Rattle.sfx.specs.Places.{lineColor}
 use Rattle.sfx.specs.Words.{bitOf, modeNumber, layerTag, tagPriority, placeTag, permitsPlace, regionWord, LineLayersOf}
 use Rattle.sfx.specs.Words.{shows, putTop, putBackground, putTopObject, putObject, isBlended, isFaded, WeightsOf, Weighed}
-use Rattle.sfx.specs.Words.{fadeColor, fadeWeight, fadedColor, pairColor, backgroundPair, backgroundTop, columnColor, topColor, atColumn}
+use Rattle.sfx.specs.Words.{fadeColor, fadeWeight, fadedColor, pairColor}
+use Rattle.sfx.specs.Words.{backgroundPair, backgroundTop, columnColor, topColor, atColumn}
 use Rattle.sfx.specs.declared.Weights.{Weights}
 use Rattle.sfx.specs.declared.layer.Layer.{Layer}
 use Rattle.sfx.specs.declared.layer.LayerPair.{LayerPair}
@@ -40,6 +42,33 @@ use Rattle.sfx.specs.declared.layer.LineLayers.{LineLayers}
 pub bitOf-bound : (t : Bool) → bitOf t ≤ 1
 bitOf-bound true = omega arith
 bitOf-bound false = omega arith
+
+-- A bit at its place, and bits side by side, fit a halfword.
+pub bit-fits : (place : ℕ) {b : ℕ} → place < 64 → b ≤ 1 → Fits w16 (place * b)
+bit-fits place place< b≤ = record { fits = omega (arith, mul-le-mul-left place b≤) }
+
+module _ {a b : ℕ} (a≤ : a ≤ 1) (b≤ : b ≤ 1) where
+  pub two-fit : Fits w16 (a + 2 * b)
+  two-fit = record { fits = omega arith }
+
+  -- Above two bits, a priority.
+  pub tag-fits : {p : ℕ} → p ≤ 4 → Fits w16 (8 * p) × Fits w16 (a + 2 * b + 8 * p)
+  tag-fits p≤ = (record { fits = omega arith }, record { fits = omega arith })
+
+  module _ {c : ℕ} (c≤ : c ≤ 1) where
+    pub three-fit : Fits w16 (a + 2 * b + 4 * c)
+    three-fit = record { fits = omega arith }
+
+    module _ {d : ℕ} (d≤ : d ≤ 1) where
+      pub four-fit : Fits w16 (a + 2 * b + 4 * c + 8 * d)
+      four-fit = record { fits = omega arith }
+
+      module _ {e : ℕ} (e≤ : e ≤ 1) where
+        pub five-fit : Fits w16 (a + 2 * b + 4 * c + 8 * d + 16 * e)
+        five-fit = record { fits = omega arith }
+
+        pub six-fit : {f : ℕ} → f ≤ 1 → Fits w16 (a + 2 * b + 4 * c + 8 * d + 16 * e + 32 * f)
+        six-fit f≤ = record { fits = omega arith }
 
 -- ---- layers
 
@@ -193,6 +222,10 @@ pub fade-bound : {evy : ℕ} → evy ≤ 16 → (16 - evy ≤ 31) × (evy ≤ 31
 fade-bound evy≤ = (omega arith, omega arith)
 
 -- ---- a line
+
+-- A priority that was read is one that a tag holds.
+pub priority-bound : {p : ℕ} (control : ℕ) → p ≡ priority control → p ≤ 4
+priority-bound control p-is = omega arith
 
 module _ (registers : List ℕ) (first second place : ℕ) where
   pub placeTag-some : {kind : RenderLayerKind} {control : BgControl} {tag : ℕ}

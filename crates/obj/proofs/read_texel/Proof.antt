@@ -1,4 +1,4 @@
--- obj::read_texel meets its contract: the calls give the address, the index and the bank of texel.
+-- obj::read_texel meets its contract: the calls give the address and the bank of texel.
 -- Assumes nothing.
 use native.Mathlib.Omega.{arith}
 use borrow.Author.Needs.{needs}
@@ -13,7 +13,6 @@ pub read-texel-spec : {M : Type 1} → statement M
 read-texel-spec =
     tie.close
     (tie.spec
-    (λ c κs. omega arith)
     (λ c κs. omega arith)
     (λ c κs. omega arith)
     (λ c κs. omega arith)

@@ -4,6 +4,7 @@ use mathlib.Core.Path.{sym, ap, _∙_}
 use native.Mathlib.Omega.{arith}
 use borrow.Author.Needs.{needs}
 use Rattle.obj.specs.Sprite.{drawn}
+use Rattle.obj.proofs.Decode.{width-whole}
 use Rattle.obj.proofs.Drawn.{drawn-onLine}
 use Rattle.obj.proofs.Steps.{step-none, step-drawn}
 use Rattle.obj.proofs.render_obj.Statement.{statement}
@@ -16,6 +17,7 @@ render-typed-obj-requires c κs =
     let at = tested .before .before .before .before .before .before .args in
     let drew = sym (tested .is-drawn .ensures) ∙ c .before .if1 .taken in
     let on = drawn-onLine (at .reading) (at .tiles-start) (read .result) (at .line) drew in
+    let whole = width-whole _ (read .ensures .0) in
     search needs
 
 returns : tie.Need-returns

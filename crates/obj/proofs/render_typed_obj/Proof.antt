@@ -1,6 +1,7 @@
 -- obj::render_typed_obj meets its contract: each arm is the clause of typedColor.
 -- Assumes nothing.
 use native.Mathlib.Omega.{arith}
+use mathlib.Core.Path.{refl}
 use borrow.Author.Needs.{needs}
 use Rattle.obj.specs.Sprite.{typedColor}
 use Rattle.obj.proofs.Pixels.{putRow-none}
@@ -15,7 +16,7 @@ returns c =
     let at = known .before .args in
     putRow-typed (at .reading) (at .mapping) (at .vram .now) (at .palette .now) (at .oam .now) (at .attrs) (at .line)
     (at .entries .now)
-    (c .enum-told .given .1) (putRow-none (at .attrs) (at .entries .now) (known .slice-known .given))
+    (c .enum-told .given .1) (putRow-none (at .attrs) _ (at .entries .now) (known .slice-known .given) (λ k k<. refl))
 
 returns-2 : tie.Need-returns-2
 unfolding typedColor

@@ -6,8 +6,12 @@ use Rattle.sfx.proofs.Tops.{unmarked, object-bound}
 use Rattle.sfx.proofs.finalize_scanline.Statement.{statement}
 use Rattle.sfx.proofs.finalize_scanline.Tie as tie
 
+-- How the function starts, from the place where its regions are known.
+abbrev start : tie.After-line-regions → tie.Start
+start c = c .before .before .before .before .before
+
 object-tags-requires : tie.Need-object-tags-requires
-object-tags-requires c κs = (search needs, object-bound (c .before .line-layers .ensures))
+object-tags-requires c κs = (start (c .before .before) .pre .1, object-bound (c .before .line-layers .ensures))
 
 compose-row-requires : tie.Need-compose-row-requires
 compose-row-requires c κs =
@@ -38,12 +42,12 @@ finalize-scanline-spec =
     tie.close
     (tie.spec
     (search needs)
-    (search needs)
-    (search needs)
+    (λ c κs. (start c .pre .2, start c .pre .3))
+    (λ c κs. (start (c .before) .pre .3, start (c .before) .pre .4))
     object-tags-requires
-    (search needs)
+    (λ c κs. start (c .before .before .before) .pre .1)
     compose-row-requires
-    (search needs)
-    (search needs)
+    (λ c κs. tt)
+    (λ c κs. start (c .before .before .before .before .before .before .before) .pre .0)
     (search needs)
     returns)

@@ -21,7 +21,12 @@ loop-holds c = tabbed-none refl
 loop-again : tie.Need-loop-again Inv-loop μ-loop
 loop-again c =
     let turn = c .before .before .before .before .before in
-    tabbed-more (turn .before .loop .inv) (turn .loop-test .taken) (atColumn-is _ _ _ _ _ _ _ _ _ _ (c .top-pixel .ensures))
+    let head = turn .before in
+    let a = head .before .args in
+    tabbed-more (head .loop .inv) (turn .loop-test .taken)
+    (atColumn-is (topColor (a .line) (a .weights))
+    (a .t3) (a .t4) (a .t5) (a .t6) (a .t7) (a .t8) (a .t9) (head .loop .column) _
+    (c .top-pixel .ensures))
 
 returns : tie.Need-returns Inv-loop μ-loop
 returns c = tabbed-all (c .before .loop .inv) (c .loop-test .left)

@@ -1,7 +1,8 @@
 -- sfx::layer::layer_tag meets its contract: its bits are those of layerTag.
 -- Assumes nothing.
+use lib.Dec.{lit<}
 use borrow.Author.Needs.{needs}
-use Rattle.sfx.proofs.Words.{layerTag-is}
+use Rattle.sfx.proofs.Words.{bit-fits, two-fit, tag-fits, layerTag-is}
 use Rattle.sfx.proofs.layer.layer_tag.Statement.{statement}
 use Rattle.sfx.proofs.layer.layer_tag.Tie as tie
 
@@ -22,8 +23,8 @@ layer-tag-spec =
     (search needs)
     (search needs)
     (search needs)
-    (search needs)
-    (search needs)
-    (search needs)
-    (search needs)
+    (λ c. bit-fits 2 (lit< tt) (c .bit-of2 .ensures .1))
+    (λ c. two-fit (c .before .before .bit-of .ensures .1) (c .bit-of2 .ensures .1))
+    (λ c. tag-fits (c .before .before .bit-of .ensures .1) (c .bit-of2 .ensures .1) (c .before .before .before .before .pre) .0)
+    (λ c. tag-fits (c .before .before .bit-of .ensures .1) (c .bit-of2 .ensures .1) (c .before .before .before .before .pre) .1)
     returns)

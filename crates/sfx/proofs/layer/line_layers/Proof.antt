@@ -1,6 +1,6 @@
 -- sfx::layer::line_layers meets its contract: each field is what a call gives of the registers' targets.
 -- Assumes nothing.
-use borrow.Author.Needs.{needs}
+use lib.Dec.{lit<, lit≤}
 use Rattle.sfx.proofs.Words.{lineLayers-is}
 use Rattle.sfx.proofs.layer.line_layers.Statement.{statement}
 use Rattle.sfx.proofs.layer.line_layers.Tie as tie
@@ -27,17 +27,17 @@ pub line-layers-spec : {M : Type 1} → statement M
 line-layers-spec =
     tie.close
     (tie.spec
-    (search needs)
-    (search needs)
-    (search needs)
-    (search needs)
-    (search needs)
-    (search needs)
-    (search needs)
-    (search needs)
-    (search needs)
-    (search needs)
-    (search needs)
-    (search needs)
-    (search needs)
+    (λ c κs. c .before .before .pre .1)
+    (λ c. lit< tt)
+    (λ c κs. c .before .before .before .pre .1)
+    (λ c. lit< tt)
+    (λ c κs. c .before .before .before .before .pre .1)
+    (λ c. lit< tt)
+    (λ c κs. c .before .before .before .before .before .pre .1)
+    (λ c. lit< tt)
+    (λ c κs. c .before .before .before .before .before .before .pre .1)
+    (λ c κs. lit≤ tt)
+    (λ c κs. c .before .before .before .before .before .before .before .before .pre .0)
+    (λ c κs. lit≤ tt)
+    (λ c κs. tt)
     returns)

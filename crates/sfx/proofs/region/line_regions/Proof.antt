@@ -1,6 +1,5 @@
 -- sfx::region::line_regions meets its contract: each region's word is that of what the region permits.
 -- Assumes nothing.
-use borrow.Author.Needs.{needs}
 use Rattle.sfx.proofs.Columns.{regions-are}
 use Rattle.sfx.proofs.region.line_regions.Statement.{statement}
 use Rattle.sfx.proofs.region.line_regions.Tie as tie
@@ -12,7 +11,7 @@ returns c =
     let winobj = winout .before in
     let win1 = winobj .before in
     let win0 = win1 .before in
-    regions-are _ _ (win0 .before .read-dispcnt .ensures .obj-is) _
+    regions-are _ _ (win0 .before .read-dispcnt .ensures .obj-is)
     (win0 .region-of .ensures)
     (win1 .region-of2 .ensures)
     (winobj .region-of3 .ensures)
@@ -25,11 +24,11 @@ pub line-regions-spec : {M : Type 1} → statement M
 line-regions-spec =
     tie.close
     (tie.spec
-    (search needs)
-    (search needs)
-    (search needs)
-    (search needs)
-    (search needs)
-    (search needs)
-    (search needs)
+    (λ c κs. c .before .before .pre .1)
+    (λ c κs. c .before .before .before .pre .1)
+    (λ c κs. c .before .before .before .before .pre .1)
+    (λ c κs. c .before .before .before .before .before .pre .1)
+    (λ c κs. c .before .before .before .before .before .before .pre .1)
+    (λ c κs. c .before .before .before .before .before .before .before .pre .1)
+    (λ c κs. c .before .before .before .before .before .before .before .before .pre)
     returns)

@@ -1,7 +1,7 @@
 -- sfx::region::region_word meets its contract: its bits are those of regionWord.
 -- Assumes nothing.
-use borrow.Author.Needs.{needs}
-use Rattle.sfx.proofs.Words.{regionWord-is}
+use lib.Dec.{lit<}
+use Rattle.sfx.proofs.Words.{bit-fits, two-fit, three-fit, four-fit, five-fit, six-fit, regionWord-is}
 use Rattle.sfx.proofs.region.region_word.Statement.{statement}
 use Rattle.sfx.proofs.region.region_word.Tie as tie
 
@@ -23,26 +23,51 @@ pub region-word-spec : {M : Type 1} → statement M
 region-word-spec =
     tie.close
     (tie.spec
-    (search needs)
-    (search needs)
-    (search needs)
-    (search needs)
-    (search needs)
-    (search needs)
-    (search needs)
-    (search needs)
-    (search needs)
-    (search needs)
-    (search needs)
-    (search needs)
-    (search needs)
-    (search needs)
-    (search needs)
-    (search needs)
-    (search needs)
-    (search needs)
-    (search needs)
-    (search needs)
-    (search needs)
-    (search needs)
+    (λ c. lit< tt)
+    (λ c κs. tt)
+    (λ c. lit< tt)
+    (λ c κs. tt)
+    (λ c. bit-fits 2 (lit< tt) (c .place-bit2 .ensures .1))
+    (λ c.
+    two-fit
+    (c .before .place-bit .ensures .1)
+    (c .place-bit2 .ensures .1))
+    (λ c. lit< tt)
+    (λ c κs. tt)
+    (λ c. bit-fits 4 (lit< tt) (c .place-bit3 .ensures .1))
+    (λ c.
+    three-fit
+    (c .before .before .place-bit .ensures .1)
+    (c .before .place-bit2 .ensures .1)
+    (c .place-bit3 .ensures .1))
+    (λ c. lit< tt)
+    (λ c κs. tt)
+    (λ c. bit-fits 8 (lit< tt) (c .place-bit4 .ensures .1))
+    (λ c.
+    four-fit
+    (c .before .before .before .place-bit .ensures .1)
+    (c .before .before .place-bit2 .ensures .1)
+    (c .before .place-bit3 .ensures .1)
+    (c .place-bit4 .ensures .1))
+    (λ c κs. tt)
+    (λ c κs. tt)
+    (λ c. bit-fits 16 (lit< tt) (c .bit-of .ensures .1))
+    (λ c.
+    five-fit
+    (c .before .before .before .before .before .place-bit .ensures .1)
+    (c .before .before .before .before .place-bit2 .ensures .1)
+    (c .before .before .before .place-bit3 .ensures .1)
+    (c .before .before .place-bit4 .ensures .1)
+    (c .bit-of .ensures .1))
+    (λ c κs. tt)
+    (λ c κs. tt)
+    (λ c. bit-fits 32 (lit< tt) (c .bit-of2 .ensures .1))
+    (λ c.
+    six-fit
+    (c .before .before .before .before .before .before .before .place-bit .ensures .1)
+    (c .before .before .before .before .before .before .place-bit2 .ensures .1)
+    (c .before .before .before .before .before .place-bit3 .ensures .1)
+    (c .before .before .before .before .place-bit4 .ensures .1)
+    (c .before .before .bit-of .ensures .1)
+    (c .bit-of2 .ensures .1))
     returns)
