@@ -126,7 +126,7 @@ fn marks_in(columns: Columns, first: usize) -> u64
     low_marks(past(columns.right, first)) - low_marks(past(columns.left, first))
 }
 
-// The marks with columns claimed, a word at a time: `rows::mark_columns` goes a column at a time, which is far slower.
+// The marks with columns claimed, a word at a time: a column at a time would be far slower.
 fn claim(occupied: [u64; 4], columns: Columns) -> [u64; 4]
     requires { ⌜ Spanned columns ⌝ }
     ensures { λ r. ⌜ r ≡ markAll (holds columns) 240 occupied ⌝ }

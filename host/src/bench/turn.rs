@@ -47,7 +47,7 @@ impl Row {
     }
 
     pub fn text(&self) -> String {
-        format!("{:<24}{:>12.0}{:>12.0}{:>8.2}", self.name, self.library, self.oracle, self.ratio())
+        format!("{:<32}{:>12.0}{:>12.0}{:>8.2}", self.name, self.library, self.oracle, self.ratio())
     }
 
     pub fn json(&self) -> Value {
@@ -58,7 +58,7 @@ impl Row {
 
 /// The heading of rows, as wide as they are.
 pub fn heading(name: &str) -> String {
-    format!("{name:<24}{:>12}{:>12}{:>8}", "library", "oracle", "ratio")
+    format!("{name:<32}{:>12}{:>12}{:>8}", "library", "oracle", "ratio")
 }
 
 impl Set {
