@@ -1,8 +1,8 @@
 // The routines that a host program in C or Rust calls: include/ashlarkin.h says the same in C. Lent buffers don't overlap.
-ghost use Rattle.gpu.specs.Judge.{callOf};
+ghost use Rattle.judge.specs.Judge.{callOf};
 ghost use Rattle.gpu.specs.Draw.{Draws};
 ghost use Rattle.gpu.specs.Reset.{Resets};
-ghost use Rattle.gpu.specs.Step.{StepsTo};
+ghost use Rattle.references.specs.Step.{StepsTo};
 ghost use Rattle.records.specs.Draw.{DrawsRecords};
 ghost use Rattle.records.specs.Step.{StepsRecords};
 use records::BgAffine;
@@ -66,7 +66,7 @@ pub extern "C" fn ashlarkin_step(
     ensures { λ n.
         ⌜ StepsTo (record { pb2 = pb2; pd2 = pd2; pb3 = pb3; pd3 = pd3 }) (now (references .entry)) n (now (references .exit)) ⌝ }
 {
-    gpu::step(pb2, pd2, pb3, pd3, references)
+    references::step(pb2, pd2, pb3, pd3, references)
 }
 
 // Both backgrounds stepped at a line's end, each in place: 0, or 6 with both as they were.

@@ -12,16 +12,16 @@ use Rattle.rgb15.specs.declared.Rgb15.{Rgb15}
 use Rattle.rows.specs.Below.{allBelow}
 use Rattle.rows.specs.Tab.{tab}
 use Rattle.rows.proofs.Below.{allBelow-at}
-use Rattle.rows.proofs.Tab.{tab-cong}
+use Rattle.rows.proofs.Tab.{tab-cong, tab-replicate}
 use Rattle.regs.specs.Registers.{dispcnt, bgcnt, hofs, vofs, pa, pc}
 use Rattle.regs.specs.Display.{mode, displayFrameSelect}
-use Rattle.background.specs.Regular.{regularColor}
+use Rattle.regular.specs.Regular.{regularColor}
 use Rattle.background.specs.Affine.{affineColor}
 use Rattle.background.specs.Bitmap.{bitmapColor}
-use Rattle.background.specs.Background.{References, referenceX, referenceY, bgKind, kindColor, backgroundColor}
+use Rattle.references.specs.References.{References}
+use Rattle.background.specs.Background.{referenceX, referenceY, bgKind, kindColor, backgroundColor}
 use Rattle.background.specs.declared.BgKind.{BgKind}
 use Rattle.background.specs.declared.BgKind.the-variants.{Regular, Affine, Bitmap, Absent}
-use Rattle.background.proofs.Lines.{tab-replicate}
 
 -- ---- which backgrounds a kind can be
 
@@ -113,6 +113,6 @@ module _ (vram palette registers : List ℕ) (references : References) (bg line 
   pub absentLine-is : kind ≡ Absent →
       replicate 240 (rgb transparent) ≡ tab (λ column. rgb (backgroundColor vram palette registers references bg column line)) 240
   absentLine-is told =
-      tab-replicate 240 (rgb transparent)
+      tab-replicate (rgb transparent) 240
       ∙ tab-cong _ _ 240 (λ column column<.
       ap rgb (sym (backgroundColor-absent vram palette registers references bg column line (cc))))

@@ -2,7 +2,7 @@
 use mathlib.Core.Path.{_≡_, refl, sym, ap, _∙_}
 use mathlib.Core.Bool.{Bool, true, false, not, cond}
 use lib.Dec.{eqb}
-use Prim.Native.Nat.{ℕ, zero, suc, _+_, _-_, _*_, _^_, _≤_, _<_}
+use Prim.Native.Nat.{ℕ, zero, suc, _+_, _-_, _*_, _/_, _%_, _^_, _≤_, _<_}
 use mathlib.Core.List.{List}
 use native.Mathlib.Nat.{mod-eq-of-lt, mul-le-mul}
 use native.Mathlib.Omega.{arith}
@@ -13,12 +13,14 @@ use Rattle.signed.specs.Signed.{signed16, down256, wrapped}
 use Rattle.signed.proofs.Difference.{up, subℕ-view}
 use Rattle.memory.specs.Memory.{byte, half}
 use Rattle.memory.specs.Palette.{paletteColor}
+use Rattle.memory.specs.declared.PixelFormat.the-variants.{BPP8}
 use Rattle.regs.specs.Background.{BgControlOf, charBlock, screenBlock}
 use Rattle.regs.specs.declared.BgControl.{BgControl}
+use Rattle.regular.specs.Regular.{tileColor}
 use Rattle.background.specs.Point.{transformBgPoint, shows, pointColor, coordinate, Side}
 use Rattle.background.specs.Bitmap.{BitmapViewPort, bitmapStart, bitmapPixel, bitmapColor}
 use Rattle.background.specs.declared.render.ViewPort.{ViewPort}
-use Rattle.background.specs.Affine.{affineSide, affinePixel, affineColor}
+use Rattle.background.specs.Affine.{affineSide, affineTile, affinePixel, affineColor}
 
 -- A coordinate inside is wrapped to itself.
 pub wrapped-inside : (q side : ℕ) → 0x1e0000 ≤ q → q - 0x1e0000 < side → wrapped (coordinate q) side ≡ q - 0x1e0000
@@ -37,6 +39,13 @@ affineSide-bound (suc (suc (suc (suc size)))) h = omega arith
 -- The rows above a pixel of a bitmap.
 pub row-bound : (w y : ℕ) → w ≤ 240 → y < 160 → w * y ≤ 240 * 159
 row-bound w y w≤ y< = let y≤ : y ≤ 159 = omega arith in mul-le-mul w≤ y≤
+
+-- The tiles of the rows above a pixel of an affine map.
+pub tileRow-bound : (side y : ℕ) → side ≤ 1024 → y < side → side / 8 * (y / 8) ≤ 128 * 127
+tileRow-bound side y side≤ y< =
+    let across : side / 8 ≤ 128 = omega arith in
+    let down : y / 8 ≤ 127 = omega arith in
+    mul-le-mul across down
 
 module _ (wraparound : Bool) (w h : ℕ) (pixel : ℕ → ℕ → ℕ) (x y : ℤ) {t : Bool} (test : t ≡ shows wraparound w h x y) where
   -- A point that shows nothing is transparent.
@@ -58,6 +67,16 @@ sides false = (omega arith, (omega arith, refl), omega arith, (omega arith, refl
 pub bitmapViewPort-sides : {mode : ℕ} {wraparound : Bool} {v : ViewPort} → BitmapViewPort mode wraparound v →
     (v .w ≤ 240) × Side (v .w) × (v .h ≤ 160) × Side (v .h)
 bitmapViewPort-sides {mode} e = rw (e .w-is, e .h-is) (sides (eqb mode 5))
+
+-- ---- an affine background's pixel
+
+-- The colour at a pixel of an affine background, as it is made: what is read of the map, and its tile.
+pub affinePixel-is : (vram palette : List ℕ) (screen tiles side x y : ℕ) {tile c : ℕ} →
+    tile ≡ affineTile vram screen side x y → c ≡ tileColor vram palette (tiles + 0x40 * tile) (x % 8) (y % 8) BPP8 0 →
+    c ≡ affinePixel vram palette screen tiles side x y
+unfolding affinePixel
+affinePixel-is vram palette screen tiles side x y tile-is c-is =
+    c-is ∙ ap (λ (n : ℕ). tileColor vram palette (tiles + 0x40 * n) (x % 8) (y % 8) BPP8 0) tile-is
 
 -- ---- a bitmap's pixel, as it is made: what is read of it
 

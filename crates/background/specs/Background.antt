@@ -8,18 +8,12 @@ use lib.ListN.{getD}
 use Rattle.rgb15.specs.Colour.{transparent}
 use Rattle.regs.specs.Registers.{dispcnt, bgcnt, hofs, vofs, pa, pc}
 use Rattle.regs.specs.Display.{mode, displayFrameSelect}
-use Rattle.background.specs.Regular.{regularColor}
+use Rattle.regular.specs.Regular.{regularColor}
+use Rattle.references.specs.References.{References}
 use Rattle.background.specs.Affine.{affineColor}
 use Rattle.background.specs.Bitmap.{bitmapColor}
 use Rattle.background.specs.declared.BgKind.{BgKind}
 use Rattle.background.specs.declared.BgKind.the-variants.{Regular, Affine, Bitmap, Absent}
-
--- The four reference numbers of a draw, background 2's and background 3's.
-pub record References : Type 0 where
-  pub x2 : ℤ
-  pub y2 : ℤ
-  pub x3 : ℤ
-  pub y3 : ℤ
 
 -- The reference x of background 2 or 3.
 abbrev pub referenceX : References → ℕ → ℤ

@@ -5,7 +5,7 @@ ghost use Prim.Native.Nat.{_+_, _*_, _≤_, _<_};
 ghost use Rattle.rgb15.specs.Colour.{rgb};
 ghost use Rattle.signed.specs.Signed.{inRange};
 ghost use Rattle.rows.specs.Tab.{tab};
-ghost use Rattle.background.specs.Lent.{Lent};
+ghost use Rattle.regular.specs.Lent.{Lent};
 ghost use Rattle.background.specs.Point.{coordinate, Side, pointColor};
 ghost use Rattle.background.specs.Bitmap.{BitmapViewPort, bitmapStart, bitmapPixel, bitmapColor};
 use crate::render::ViewPort;

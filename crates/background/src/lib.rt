@@ -10,13 +10,14 @@ ghost use Rattle.rows.specs.Tab.{tab};
 ghost use Rattle.memory.specs.Sizes.{registersSize};
 ghost use Rattle.regs.specs.Registers.{dispcnt};
 ghost use Rattle.regs.specs.Display.{mode};
-ghost use Rattle.background.specs.Lent.{Lent};
+ghost use Rattle.regular.specs.Lent.{Lent};
 ghost use Rattle.background.specs.Background.{bgKind, backgroundColor};
 
+mod affine;
 mod bitmap;
 mod render;
-mod text;
 
+pub use affine::render_aff_bg;
 pub use bitmap::render_bitmap;
 use memory::read_16;
 use regs::iodev::read_dispcnt;
@@ -24,9 +25,8 @@ use regs::iodev::read_hofs;
 use regs::iodev::read_pa;
 use regs::iodev::read_pc;
 use regs::iodev::read_vofs;
+use regular::render_reg_bg;
 use rgb15::Rgb15;
-pub use text::render_aff_bg;
-pub use text::render_reg_bg;
 
 const BG0CNT: usize = 0x08;
 

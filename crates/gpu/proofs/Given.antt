@@ -15,16 +15,18 @@ use Rattle.regs.specs.Registers.{dispcnt, bldy}
 use Rattle.regs.specs.Display.{mode, forceBlank, enableObj}
 use Rattle.regs.specs.Reading.{readingOf, counted}
 use Rattle.rows.proofs.Cells.{length-rowOf}
-use Rattle.obj.specs.Entry.{entryCells, shapedRow}
-use Rattle.obj.specs.Sprite.{source}
+use Rattle.entries.specs.Entry.{entryCells, shapedRow}
+use Rattle.sprites.specs.Sprite.{source}
 use Rattle.obj.specs.Put.{rowAfter}
 use Rattle.obj.proofs.Shapes.{shapedRow-after}
-use Rattle.gpu.specs.Judge.{Call, callOf, outputSize, haveLengths, inRanges, lineVerdict, verdict, numberOf}
+use Rattle.references.specs.References.{inRanges}
+use Rattle.judge.specs.Judge.{Call, callOf, outputSize, haveLengths, lineVerdict, verdict, numberOf}
 use Rattle.gpu.specs.Line.{entriesAfter, lineAfter, blankLine}
-use Rattle.gpu.specs.Ready.{Lengths, Ready}
+use Rattle.judge.specs.Lengths.{Lengths}
+use Rattle.gpu.specs.Ready.{Ready}
 use Rattle.gpu.specs.Draw.{given, draw, Draws}
-use Rattle.gpu.specs.declared.judge.Verdict.{Verdict}
-use Rattle.gpu.specs.declared.judge.Verdict.the-variants.{
+use Rattle.judge.specs.declared.Verdict.{Verdict}
+use Rattle.judge.specs.declared.Verdict.the-variants.{
   BadReading,
   BadLength,
   BadLine,
@@ -35,8 +37,8 @@ use Rattle.gpu.specs.declared.judge.Verdict.the-variants.{
   Blank,
   Accepted,
 }
-use Rattle.gpu.proofs.Verdicts.{lengths-are}
-use Rattle.gpu.proofs.judge.Verdict.{the-type}
+use Rattle.judge.proofs.Verdicts.{lengths-are}
+use Rattle.judge.proofs.Verdict.{the-type}
 
 -- ---- what a draw gives
 

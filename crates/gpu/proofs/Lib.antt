@@ -1,6 +1,4 @@
 -- The laws of a draw's definitions. Assumes nothing.
-pub mod Verdicts
-pub mod Sums
 pub mod Answers
 pub mod Lines
 pub mod Given

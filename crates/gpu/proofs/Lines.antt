@@ -15,16 +15,18 @@ use Rattle.regs.specs.Registers.{dispcnt}
 use Rattle.regs.specs.Display.{enableObj}
 use Rattle.regs.specs.Reading.{readingOf}
 use Rattle.regs.specs.declared.reading.Reading.{Reading}
-use Rattle.background.specs.Background.{References, backgroundColor}
+use Rattle.references.specs.References.{References}
+use Rattle.background.specs.Background.{backgroundColor}
 use Rattle.memory.specs.Palette.{backdrop}
-use Rattle.obj.specs.Entry.{entryCells}
-use Rattle.obj.specs.Sprite.{source}
+use Rattle.entries.specs.Entry.{entryCells}
+use Rattle.sprites.specs.Sprite.{source}
 use Rattle.obj.specs.Put.{rowAfter}
-use Rattle.sfx.specs.Layers.{ordered}
-use Rattle.sfx.specs.Places.{places, placedLayers}
+use Rattle.layers.specs.Layers.{ordered}
+use Rattle.layers.specs.Places.{places, placedLayers}
+use Rattle.layers.proofs.Places.{Lined}
 use Rattle.sfx.specs.Pixel.{pixel}
-use Rattle.sfx.proofs.Places.{Lined, scanline-ordered}
-use Rattle.gpu.specs.Judge.{Call}
+use Rattle.sfx.proofs.Columns.{scanline-ordered}
+use Rattle.judge.specs.Judge.{Call}
 use Rattle.gpu.specs.Line.{entriesAfter, colorOf, pixelAt, lineAfter}
 use Rattle.gpu.specs.Ready.{placeColor}
 

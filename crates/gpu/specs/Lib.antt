@@ -1,7 +1,5 @@
--- What a draw, a row reset and a line-end step give, for every input. Assumes nothing.
-pub mod Judge
+-- What a draw and a row reset give, for every input. Assumes nothing.
 pub mod Line
 pub mod Ready
 pub mod Draw
 pub mod Reset
-pub mod Step

@@ -10,12 +10,12 @@ use Rattle.regs.specs.Registers.{dispcnt}
 use Rattle.regs.specs.Display.{enableObj}
 use Rattle.regs.specs.Reading.{readingOf}
 use Rattle.background.specs.Background.{backgroundColor}
-use Rattle.obj.specs.Sprite.{source}
-use Rattle.obj.specs.Entry.{entryCells}
+use Rattle.sprites.specs.Sprite.{source}
+use Rattle.entries.specs.Entry.{entryCells}
 use Rattle.obj.specs.Put.{rowAfter}
-use Rattle.sfx.specs.Layers.{backgrounds}
+use Rattle.layers.specs.Layers.{backgrounds}
 use Rattle.sfx.specs.Pixel.{pixel}
-use Rattle.gpu.specs.Judge.{Call}
+use Rattle.judge.specs.Judge.{Call}
 
 -- With sprites on, the entries afterwards are what the sprites make of them; else they stay.
 unfoldable pub entriesAfter : Call → List ℕ → List ℕ

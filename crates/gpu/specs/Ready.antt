@@ -5,25 +5,15 @@ use mathlib.Core.Path.{_≡_}
 use mathlib.Core.Bool.{true, cond}
 use mathlib.Core.List.{List}
 use lib.Dec.{ltb}
-use lib.ListN.{length}
 use Rattle.rgb15.specs.Colour.{transparent}
-use Rattle.memory.specs.Memory.{Memory}
-use Rattle.memory.specs.Sizes.{videoRamSize, paletteRamSize, oamSize, registersSize}
 use Rattle.regs.specs.Registers.{dispcnt, bldy}
 use Rattle.regs.specs.Display.{mode}
 use Rattle.regs.specs.Reading.{readingOf, counted}
-use Rattle.background.specs.Background.{References, backgroundColor}
-use Rattle.obj.specs.Entry.{entriesSize, shapedRow}
-use Rattle.gpu.specs.Judge.{Call, outputSize, inRanges}
-
--- Every buffer has its length.
-pub record Lengths (m : Memory) (entries output : List ℕ) : Type 0 where
-  pub vram-is : length (m .vram) ≡ videoRamSize
-  pub palette-is : length (m .palette) ≡ paletteRamSize
-  pub oam-is : length (m .oam) ≡ oamSize
-  pub registers-is : length (m .registers) ≡ registersSize
-  pub entries-is : length entries ≡ entriesSize
-  pub output-is : length output ≡ outputSize
+use Rattle.references.specs.References.{References, inRanges}
+use Rattle.background.specs.Background.{backgroundColor}
+use Rattle.entries.specs.Entry.{shapedRow}
+use Rattle.judge.specs.Judge.{Call}
+use Rattle.judge.specs.Lengths.{Lengths}
 
 -- What the tests of a draw leave.
 pub record Ready (c : Call) (entries output : List ℕ) : Type 0 where

@@ -5,12 +5,8 @@ use mathlib.Core.Bool.{cond}
 use mathlib.Core.List.{List}
 use lib.Dec.{eqb}
 use lib.ListN.{length}
-use Rattle.obj.specs.Entry.{entriesSize, resetRow}
-
--- What a routine on one buffer gives: its number, and the bytes afterwards.
-pub record Answer : Type 0 where
-  pub number : ℕ
-  pub bytes : List ℕ
+use Rattle.references.specs.Step.{Answer}
+use Rattle.entries.specs.Entry.{entriesSize, resetRow}
 
 -- A row reset writes 240 reset entries and gives 0, or gives 2 for a wrong length and writes nothing.
 unfoldable pub reset : List ℕ → Answer

@@ -8,32 +8,26 @@ ghost use Rattle.rgb15.specs.Colour.{rgb};
 ghost use Rattle.rows.specs.Tab.{tab};
 ghost use Rattle.regs.specs.Display.{mode};
 ghost use Rattle.regs.specs.Registers.{dispcnt};
-ghost use Rattle.background.specs.Lent.{Lent};
-ghost use Rattle.gpu.specs.Judge.{outputSize, inRanges, callOf};
+ghost use Rattle.regular.specs.Lent.{Lent};
+ghost use Rattle.references.specs.References.{inRanges};
+ghost use Rattle.judge.specs.Judge.{outputSize, callOf};
 ghost use Rattle.gpu.specs.Line.{entriesAfter, lineAfter, blankLine};
 ghost use Rattle.gpu.specs.Ready.{Ready, placeColor};
 ghost use Rattle.gpu.specs.Draw.{Draws};
 ghost use Rattle.gpu.specs.Reset.{Resets};
-
-mod judge;
-mod references;
-
 use background::render_bg;
+use entries::reset_row;
 use judge::ENTRIES_SIZE;
-pub use judge::Verdict;
-pub use judge::judge_draw;
+use judge::Verdict;
+use judge::judge_draw;
+use layers::sort_backgrounds;
 use memory::DISPLAY_WIDTH;
 use obj::render_objs;
-use obj::reset_row;
-pub use references::Stepped;
-pub use references::step;
-pub use references::step_references;
 use regs::Reading;
 use regs::iodev::read_dispcnt;
 use rgb15::Rgb15;
 use rows::put_word;
 use sfx::finalize_scanline;
-use sfx::sort_backgrounds;
 
 // What forced blank shows.
 const BLANK: u32 = 0xf8f8f8;

@@ -8,6 +8,7 @@ use mathlib.Core.Logic.{_⊎_, inl, inr, ⊎-elim}
 use lib.Dec.{eqb, ltb}
 use borrow.Author.Tests.{ltb-true, ltb-false, lt-ltb, eqb-true, eq-eqb}
 use Rattle.signed.proofs.Order.{and-both}
+use Rattle.entries.proofs.Shapes.{or-split}
 use Rattle.obj.specs.Order.{Pixel, isBefore, Wins}
 
 -- Pixel p was put earlier than sprite n of draw number i is.
@@ -48,11 +49,6 @@ module _ (p q : Pixel) where
       go : (t : Bool) → ltb (p .priority) (q .priority) ≡ t → p .priority ≤ q .priority
       go true t = omega (arith, ltb-true (p .priority) (q .priority) t)
       go false t = omega (arith, eqb-true (p .priority) (q .priority) (and-both _ _ (rw t at e) .0))
-
--- One of two tests holds where either does.
-pub or-split : (a b : Bool) → (a || b) ≡ true → (a ≡ true) ⊎ (b ≡ true)
-or-split true b e = inl refl
-or-split false b e = inr e
 
 -- Of equal priorities what comes first is earlier.
 isBefore-same : (p q : Pixel) → p .priority ≡ q .priority → isBefore p q ≡ true → Earlier (q .draw) (q .sprite) p

@@ -13,14 +13,14 @@ use Rattle.signed.proofs.Order.{and-both}
 use Rattle.rows.specs.Below.{between}
 use Rattle.regs.specs.declared.ObjMapping.{ObjMapping}
 use Rattle.regs.specs.declared.reading.Reading.{Reading}
-use Rattle.obj.specs.Oam.{Matrix}
-use Rattle.obj.specs.Place.{boxWidth, boxHeight, left, below}
-use Rattle.obj.specs.Tiles.{texel}
-use Rattle.obj.specs.Color.{flip, normalColor, colorAt, affineColor}
+use Rattle.sprites.specs.Oam.{Matrix}
+use Rattle.sprites.specs.Place.{boxWidth, boxHeight, left, below}
+use Rattle.sprites.specs.Tiles.{texel}
+use Rattle.sprites.specs.Color.{flip, normalColor, colorAt, affineColor}
 use Rattle.obj.specs.Turn.{pointAt, TurnOf}
 use Rattle.obj.specs.declared.affine.Turn.{Turn}
-use Rattle.obj.specs.declared.attrs.ObjAttrs.{ObjAttrs}
-use Rattle.obj.proofs.Places.{subℕ-above, within-bounds, across-above, across-between}
+use Rattle.sprites.specs.declared.attrs.ObjAttrs.{ObjAttrs}
+use Rattle.sprites.proofs.Places.{subℕ-above, within-bounds, across-above, across-between}
 
 -- ---- the colour at a point, both of whose coordinates are larger by a bias
 

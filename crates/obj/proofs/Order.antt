@@ -13,15 +13,15 @@ use borrow.Author.Tests.{leb-true, leb-false}
 use Rattle.rgb15.specs.Colour.{isTransparent}
 use Rattle.rows.specs.Cells.{cellAt}
 use Rattle.rows.proofs.Cells.{cellAt-rowOf}
-use Rattle.obj.specs.Attrs.{sprite}
-use Rattle.obj.specs.Sprite.{source, spriteColor}
-use Rattle.obj.specs.Entry.{entryCells, resetEntry, resetRow}
+use Rattle.sprites.specs.Attrs.{sprite}
+use Rattle.sprites.specs.Sprite.{source, spriteColor, isVisible, isSemi}
+use Rattle.entries.specs.Entry.{entryCells, resetEntry, resetRow}
 use Rattle.obj.specs.Put.{passedOver, shownBy, windowed, written, putPixel, spriteStep, entryUpTo}
-use Rattle.obj.specs.Order.{Draw, Pixel, isVisible, isSemi, isOpaque, pixelOf, pixelsUpTo, pixelsPut}
+use Rattle.obj.specs.Order.{Draw, Pixel, isOpaque, pixelOf, pixelsUpTo, pixelsPut}
 use Rattle.obj.specs.Order.{isBefore, Wins, Shows, Holds, none, some, entryAfter, rowsAfter}
-use Rattle.obj.specs.declared.attrs.ObjMode.{ObjMode}
-use Rattle.obj.specs.declared.entry.Entry.{Entry}
-use Rattle.obj.proofs.Decode.{priority-bound}
+use Rattle.sprites.specs.declared.attrs.ObjMode.{ObjMode}
+use Rattle.entries.specs.declared.Entry.{Entry}
+use Rattle.sprites.proofs.Decode.{priority-bound}
 use Rattle.obj.proofs.Before.{Earlier, isBefore-priority, isBefore-earlier, isBefore-le}
 
 -- ---- one pixel more

@@ -13,14 +13,13 @@ use Rattle.rows.specs.Below.{between}
 use Rattle.rows.specs.Cells.{cellAt, putCell, only, mapRow}
 use Rattle.rows.proofs.Cells.{putCell-same, mapRow-cong, mapRow-same}
 use Rattle.rows.proofs.Passed.{PassedPart, passed-from, passed-inside, passed-to}
-use Rattle.obj.specs.Entry.{entryCells}
+use Rattle.entries.specs.Entry.{entryCells}
 use Rattle.obj.specs.Put.{passedOver, shownBy, windowed, written, putPixel, putColumn, putRow}
-use Rattle.obj.specs.Sprite.{isPermitted}
-use Rattle.obj.specs.Order.{isSemi, isWindow}
-use Rattle.obj.specs.declared.attrs.ObjAttrs.{ObjAttrs}
-use Rattle.obj.specs.declared.attrs.ObjMode.{ObjMode}
-use Rattle.obj.specs.declared.entry.Entry.{Entry}
-use Rattle.obj.proofs.Entries.{exact-entryCells}
+use Rattle.sprites.specs.Sprite.{isPermitted, isSemi, isWindow}
+use Rattle.sprites.specs.declared.attrs.ObjAttrs.{ObjAttrs}
+use Rattle.sprites.specs.declared.attrs.ObjMode.{ObjMode}
+use Rattle.entries.specs.declared.Entry.{Entry}
+use Rattle.entries.proofs.Entries.{exact-entryCells}
 
 -- ---- a pixel, by questions asked of the mode
 

@@ -20,19 +20,19 @@ use Rattle.regs.specs.Display.{DisplayControlOf, objMapping}
 use Rattle.regs.specs.declared.DisplayControl.{DisplayControl}
 use Rattle.regs.specs.declared.ObjMapping.{ObjMapping}
 use Rattle.regs.specs.declared.reading.Reading.{Reading}
-use Rattle.obj.specs.Oam.{matrix}
-use Rattle.obj.specs.Attrs.{sprite}
-use Rattle.obj.specs.Color.{affineColor}
-use Rattle.obj.specs.Tiles.{tilesStart}
-use Rattle.obj.specs.Sprite.{Source, source, drawn, typedColor, spriteColor}
+use Rattle.sprites.specs.Oam.{matrix}
+use Rattle.sprites.specs.Attrs.{sprite}
+use Rattle.sprites.specs.Color.{affineColor}
+use Rattle.sprites.specs.Tiles.{tilesStart}
+use Rattle.sprites.specs.Sprite.{Source, source, drawn, typedColor, spriteColor}
 use Rattle.obj.specs.Skip.{NoneDrawn}
-use Rattle.obj.specs.Entry.{entryCells}
+use Rattle.entries.specs.Entry.{entryCells}
 use Rattle.obj.specs.Put.{putPixel, putRow, spriteStep, entryUpTo, rowAfter}
-use Rattle.obj.specs.declared.attrs.ObjAttrs.{ObjAttrs}
-use Rattle.obj.specs.declared.attrs.ObjType.{ObjType}
-use Rattle.obj.specs.declared.entry.Entry.{Entry}
-use Rattle.obj.proofs.attrs.ObjType.{the-type}
-use Rattle.obj.proofs.Entries.{exact-entryCells}
+use Rattle.sprites.specs.declared.attrs.ObjAttrs.{ObjAttrs}
+use Rattle.sprites.specs.declared.attrs.ObjType.{ObjType}
+use Rattle.entries.specs.declared.Entry.{Entry}
+use Rattle.sprites.proofs.attrs.ObjType.{the-type}
+use Rattle.entries.proofs.Entries.{exact-entryCells}
 use Rattle.obj.proofs.Pixels.{putPixel-transparent}
 
 -- The colours of a sprite, by its type.

@@ -1,7 +1,7 @@
 -- Laws of a normal sprite's row of colours, tile by tile. No contract cites this file. Assumes nothing.
 use Prim.Native.Nat.{ℕ, _+_, _-_, _*_, _/_, _%_, _≤_, _<_, min}
 use native.Mathlib.Omega.{arith}
-use mathlib.Core.Path.{_≡_, sym, ap, subst, _∙_}
+use mathlib.Core.Path.{_≡_, refl, sym, ap, ap₂, subst, _∙_}
 use mathlib.Core.Bool.{Bool, true, false}
 use mathlib.Core.List.{List, [], _∷_}
 use lib.ListN.{length, getD, take, drop, take-append-drop, List·getD-append}
@@ -14,13 +14,15 @@ use Rattle.rows.proofs.Tab.{length-tab, getD-of-tab, tab-cong}
 use Rattle.rows.proofs.Tabbed.{Tiled}
 use Rattle.memory.specs.Palette.{paletteColor}
 use Rattle.memory.specs.Tiles.{paletteBank, tilePixel}
+use Rattle.tiles.specs.Flip.{flipped}
+use Rattle.tiles.proofs.Rows.{flipped-bound}
 use Rattle.regs.specs.declared.ObjMapping.{ObjMapping}
 use Rattle.regs.specs.declared.reading.Reading.{Reading}
-use Rattle.obj.specs.Place.{left, below}
-use Rattle.obj.specs.Tiles.{tileAt, texel}
-use Rattle.obj.specs.Color.{flip, normalColor}
-use Rattle.obj.specs.declared.attrs.ObjAttrs.{ObjAttrs}
-use Rattle.obj.proofs.Places.{between-bounds}
+use Rattle.sprites.specs.Place.{left, below}
+use Rattle.sprites.specs.Tiles.{tileAt, texel}
+use Rattle.sprites.specs.Color.{flip, normalColor}
+use Rattle.sprites.specs.declared.attrs.ObjAttrs.{ObjAttrs}
+use Rattle.sprites.proofs.Places.{between-bounds}
 use Rattle.obj.proofs.Colors.{normalColor-inside}
 
 -- ---- places that are flipped
@@ -39,24 +41,11 @@ flip-tile false width tiles t k whole t< k< = omega arith
 
 -- ---- the row of a tile
 
--- Eight colours are a row's if each is.
-row-is : (f : ℕ → ℕ) {a b c d e g h j : Rgb15}
-    → a .0 ≡ f 0 → b .0 ≡ f 1 → c .0 ≡ f 2 → d .0 ≡ f 3 → e .0 ≡ f 4 → g .0 ≡ f 5 → h .0 ≡ f 6 → j .0 ≡ f 7
-    → a ∷ b ∷ c ∷ d ∷ e ∷ g ∷ h ∷ j ∷ [] ≡ tab (λ x. rgb (f x)) 8
-unfolding tab
-row-is f a-is b-is c-is d-is e-is g-is h-is j-is =
-    cc (ap rgb a-is, ap rgb b-is, ap rgb c-is, ap rgb d-is, ap rgb e-is, ap rgb g-is, ap rgb h-is, ap rgb j-is)
-
--- The same eight, flipped.
-pub row-flipped : (f : ℕ → ℕ) (flipped : Bool) {a b c d e g h j : Rgb15} {r : List Rgb15}
-    → a .0 ≡ f 0 → b .0 ≡ f 1 → c .0 ≡ f 2 → d .0 ≡ f 3 → e .0 ≡ f 4 → g .0 ≡ f 5 → h .0 ≡ f 6 → j .0 ≡ f 7
-    → r ≡ tab (λ x. getD (a ∷ b ∷ c ∷ d ∷ e ∷ g ∷ h ∷ j ∷ []) (flip flipped 8 x) (rgb 0)) 8
-    → r ≡ tab (λ x. rgb (f (flip flipped 8 x))) 8
-row-flipped f flipped a-is b-is c-is d-is e-is g-is h-is j-is r-is =
-    let row = row-is f a-is b-is c-is d-is e-is g-is h-is j-is in
-    r-is
-    ∙ tab-cong _ _ 8
-    (λ x x<. getD-of-tab (λ x. rgb (f x)) 8 (flip flipped 8 x) (rgb 0) row (flip-bound flipped 8 x x<))
+-- A place in a tile is flipped like one in a row of 8.
+flip-eight : (set : Bool) (at : ℕ) → flipped set at ≡ flip set 8 at
+unfolding flip
+flip-eight true at = refl
+flip-eight false at = refl
 
 module _ (reading : Reading) (mapping : ObjMapping) (vram palette : List ℕ) (s : ObjAttrs) (y : ℕ) where
   -- Pixel b of tile a.
@@ -79,7 +68,7 @@ module _ (reading : Reading) (mapping : ObjMapping) (vram palette : List ℕ) (s
       → bank ≡ paletteBank (s .format) (s .bank)
       → r
       ≡ tab
-      (λ k. rgb (paletteColor palette 0x200 (tilePixel vram addr (flip (s .«h_flip») 8 k) (y % 8) (s .format)) bank))
+      (λ k. rgb (paletteColor palette 0x200 (tilePixel vram addr (flipped (s .«h_flip») k) (y % 8) (s .format)) bank))
       8
       → r ≡ tab (λ k. rgb (texel reading mapping vram palette s (flip (s .«h_flip») (s .width) (8 * t + k)) y)) 8
   row-shown t {tiles} {tile} whole t< tile-is addr-is bank-is r-is =
@@ -87,9 +76,10 @@ module _ (reading : Reading) (mapping : ObjMapping) (vram palette : List ℕ) (s
       ∙ tab-cong _ _ 8
       (λ k k<.
       ap rgb
-      (texel-tile tile (flip (s .«h_flip») 8 k) (flip-bound (s .«h_flip») 8 k k<) addr-is bank-is
+      (texel-tile tile (flipped (s .«h_flip») k) (flipped-bound (s .«h_flip») k k<) addr-is bank-is
       ∙ ap (λ x. texel reading mapping vram palette s x y)
-      (ap (λ n. 8 * n + flip (s .«h_flip») 8 k) tile-is ∙ flip-tile (s .«h_flip») (s .width) tiles t k whole t< k<)))
+      (ap₂ (λ n m. 8 * n + m) tile-is (flip-eight (s .«h_flip») k)
+      ∙ flip-tile (s .«h_flip») (s .width) tiles t k whole t< k<)))
 
 -- ---- an element of a row
 

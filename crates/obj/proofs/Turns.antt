@@ -6,12 +6,12 @@ use mathlib.Core.Path.{_≡_, sym, ap, _∙_}
 use lib.IntN.{ℤ, pos, subℕ, _+ℤ_, _-ℤ_}
 use Rattle.signed.proofs.Difference.{subℕ-zero, subℕ-cross, sub-pos-subℕ, add-subℕ-pos}
 use Rattle.signed.proofs.Point.{turn-cross}
-use Rattle.obj.specs.Oam.{Matrix}
-use Rattle.obj.specs.Place.{boxWidth}
-use Rattle.obj.specs.Color.{turn}
+use Rattle.sprites.specs.Oam.{Matrix}
+use Rattle.sprites.specs.Place.{boxWidth}
+use Rattle.sprites.specs.Color.{turn}
 use Rattle.obj.specs.Turn.{MatrixOf, pointAt, StartOf, TurnOf}
 use Rattle.obj.specs.declared.affine.AffineMatrix.{AffineMatrix}
-use Rattle.obj.specs.declared.attrs.ObjAttrs.{ObjAttrs}
+use Rattle.sprites.specs.declared.attrs.ObjAttrs.{ObjAttrs}
 
 -- A matrix's number, 2^15 larger, times a place of the box.
 pub scaled-bound : (p k most : ℕ) → p < 2 ^ 16 → k ≤ most → p * k ≤ 65535 * most

@@ -7,13 +7,13 @@ use mathlib.Core.Bool.{Bool, true, false, not, cond, _&&_, _||_, or-true, or-fal
 use mathlib.Core.List.{List, [], _∷_}
 use lib.Dec.{eqb, leb}
 use Rattle.rgb15.specs.Colour.{isTransparent}
-use Rattle.obj.specs.Attrs.{sprite}
-use Rattle.obj.specs.Sprite.{source}
-use Rattle.obj.specs.Entry.{windowMark, resetEntry}
+use Rattle.sprites.specs.Attrs.{sprite}
+use Rattle.sprites.specs.Sprite.{source, isWindow}
+use Rattle.entries.specs.Entry.{windowMark, resetEntry}
 use Rattle.obj.specs.Put.{passedOver, shownBy, windowed, written, putPixel, spriteStep, entryUpTo}
-use Rattle.obj.specs.Order.{Draw, isWindow, isOpaque, windowUpTo, windowPut, entryAfter}
-use Rattle.obj.specs.declared.attrs.ObjMode.{ObjMode}
-use Rattle.obj.specs.declared.entry.Entry.{Entry}
+use Rattle.obj.specs.Order.{Draw, isOpaque, windowUpTo, windowPut, entryAfter}
+use Rattle.sprites.specs.declared.attrs.ObjMode.{ObjMode}
+use Rattle.entries.specs.declared.Entry.{Entry}
 
 -- A pixel that is shown leaves the window mark.
 windowMark-shownBy : (semi priority color : ℕ) (e : Entry) → semi ≤ 1

@@ -9,12 +9,11 @@ use lib.Dec.{eqb, ltb}
 use Rattle.rgb15.specs.Colour.{transparent, isTransparent}
 use Rattle.memory.specs.Memory.{Memory}
 use Rattle.regs.specs.declared.reading.Reading.{Reading}
-use Rattle.obj.specs.Attrs.{sprite}
-use Rattle.obj.specs.Sprite.{source, spriteColor}
-use Rattle.obj.specs.Entry.{semiMark}
+use Rattle.sprites.specs.Attrs.{sprite}
+use Rattle.sprites.specs.Sprite.{source, isVisible, isSemi, isWindow, spriteColor}
+use Rattle.entries.specs.Entry.{semiMark}
 use Rattle.obj.specs.Put.{entryUpTo, rowAfter}
-use Rattle.obj.specs.declared.attrs.ObjMode.{ObjMode}
-use Rattle.obj.specs.declared.entry.Entry.{Entry}
+use Rattle.entries.specs.declared.Entry.{Entry}
 
 -- A draw, as far as its sprites go.
 pub record Draw : Type 0 where
@@ -29,27 +28,6 @@ pub record Pixel : Type 0 where
   pub priority : ℕ
   pub color : ℕ
   pub semi : Bool
-
--- Whether sprites of the mode show their pixels: window sprites don't, and those of mode 3 aren't drawn.
-unfoldable pub isVisible : ObjMode → Bool
-isVisible ObjMode.Normal = true
-isVisible ObjMode.Sfx = true
-isVisible ObjMode.Window = false
-isVisible ObjMode.Forbidden = false
-
--- Whether sprites of the mode are semi-transparent.
-unfoldable pub isSemi : ObjMode → Bool
-isSemi ObjMode.Normal = false
-isSemi ObjMode.Sfx = true
-isSemi ObjMode.Window = false
-isSemi ObjMode.Forbidden = false
-
--- Whether sprites of the mode are window sprites.
-unfoldable pub isWindow : ObjMode → Bool
-isWindow ObjMode.Normal = false
-isWindow ObjMode.Sfx = false
-isWindow ObjMode.Window = true
-isWindow ObjMode.Forbidden = false
 
 -- Whether sprite n of a draw has an opaque pixel at a column.
 unfoldable pub isOpaque : Draw → ℕ → ℕ → Bool

@@ -6,12 +6,12 @@ use lib.Dec.{leb}
 use Rattle.rgb15.specs.Colour.{rgb, isTransparent}
 use Rattle.rows.specs.Cells.{cellAt, putCell, rowOf, mapRow}
 use Rattle.regs.specs.declared.reading.Reading.{Reading}
-use Rattle.obj.specs.Attrs.{sprite}
-use Rattle.obj.specs.Sprite.{Source, spriteColor}
-use Rattle.obj.specs.Entry.{entryCells}
-use Rattle.obj.specs.declared.attrs.ObjAttrs.{ObjAttrs}
-use Rattle.obj.specs.declared.attrs.ObjMode.{ObjMode}
-use Rattle.obj.specs.declared.entry.Entry.{Entry}
+use Rattle.sprites.specs.Attrs.{sprite}
+use Rattle.sprites.specs.Sprite.{Source, spriteColor}
+use Rattle.entries.specs.Entry.{entryCells}
+use Rattle.sprites.specs.declared.attrs.ObjAttrs.{ObjAttrs}
+use Rattle.sprites.specs.declared.attrs.ObjMode.{ObjMode}
+use Rattle.entries.specs.declared.Entry.{Entry}
 
 -- A non-window sprite is passed over where the entry's priority is less than or equal to its own; a window sprite tests
 -- no priority.

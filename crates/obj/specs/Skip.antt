@@ -4,8 +4,8 @@ use mathlib.Core.Path.{_≡_}
 use mathlib.Core.Bool.{false}
 use mathlib.Core.List.{List}
 use Rattle.regs.specs.declared.reading.Reading.{Reading}
-use Rattle.obj.specs.Attrs.{sprite}
-use Rattle.obj.specs.Sprite.{drawn}
+use Rattle.sprites.specs.Attrs.{sprite}
+use Rattle.sprites.specs.Sprite.{drawn}
 
 -- No sprite from a up to b is drawn on the line, whatever the reading and wherever sprite tiles start.
 abbrev pub NoneDrawn : List ℕ → ℕ → ℕ → ℕ → Type 0

@@ -3,12 +3,12 @@
 use Prim.Native.Nat.{ℕ, _+_, _-_, _*_, _/_, _^_, _≤_, _<_}
 use mathlib.Core.Path.{_≡_}
 use lib.IntN.{ℤ, pos, subℕ, _-ℤ_}
-use Rattle.obj.specs.Oam.{Matrix}
-use Rattle.obj.specs.Place.{boxWidth}
-use Rattle.obj.specs.Color.{turn}
+use Rattle.sprites.specs.Oam.{Matrix}
+use Rattle.sprites.specs.Place.{boxWidth}
+use Rattle.sprites.specs.Color.{turn}
 use Rattle.obj.specs.declared.affine.AffineMatrix.{AffineMatrix}
 use Rattle.obj.specs.declared.affine.Turn.{Turn}
-use Rattle.obj.specs.declared.attrs.ObjAttrs.{ObjAttrs}
+use Rattle.sprites.specs.declared.attrs.ObjAttrs.{ObjAttrs}
 
 -- A matrix with each number 2^15 larger.
 pub record MatrixOf (m : Matrix) (r : AffineMatrix) : Type 0 where

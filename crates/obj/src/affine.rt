@@ -6,14 +6,14 @@ ghost use Prim.Native.Nat.{_/_, _^_, _≤_, _<_};
 ghost use lib.IntN.{pos, _-ℤ_};
 ghost use lib.ListN.{length};
 ghost use Rattle.memory.specs.Sizes.{oamSize};
-ghost use Rattle.obj.specs.Oam.{matrix};
-ghost use Rattle.obj.specs.Attrs.{Decoded};
-ghost use Rattle.obj.specs.Place.{boxHeight, below, onLine};
+ghost use Rattle.sprites.specs.Oam.{matrix};
+ghost use Rattle.sprites.specs.Attrs.{Decoded};
+ghost use Rattle.sprites.specs.Place.{boxHeight, below, onLine};
 ghost use Rattle.obj.specs.Turn.{MatrixOf, StartOf, TurnOf, pointAt};
-use crate::ObjAttrs;
 use memory::read_16;
 use regs::Reading;
 use signed::lift_half;
+use sprites::ObjAttrs;
 
 const AFFINE_FILL: usize = 2 * 3;
 

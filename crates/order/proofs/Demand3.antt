@@ -5,10 +5,10 @@ use mathlib.Core.Bool.{_||_}
 use mathlib.Core.List.{List, []}
 use lib.ListN.{length}
 use Rattle.rows.proofs.Cells.{length-rowOf, cellAt-rowOf}
-use Rattle.obj.specs.Entry.{entryCells, windowMark, resetRow}
+use Rattle.entries.specs.Entry.{entryCells, windowMark, resetRow}
 use Rattle.obj.specs.Order.{Pixel, Wins}
 use Rattle.obj.proofs.Before.{wins-once}
-use Rattle.obj.proofs.Shapes.{shapedRow-reset}
+use Rattle.entries.proofs.Shapes.{shapedRow-reset}
 use Rattle.order.specs.Draws.{Attempt, rowAfter, pixelsPut, windowPut, Demand3}
 use Rattle.order.proofs.Verdicts.{number-shaped}
 use Rattle.order.proofs.Rows.{length-draws, shapedRow-draws}

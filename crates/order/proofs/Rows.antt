@@ -11,11 +11,11 @@ use Rattle.rows.proofs.Cells.{length-rowOf}
 use Rattle.regs.specs.Registers.{dispcnt}
 use Rattle.regs.specs.Display.{enableObj, forceBlank}
 use Rattle.regs.specs.Reading.{readingOf}
-use Rattle.obj.specs.Sprite.{source}
-use Rattle.obj.specs.Entry.{entryCells, shapedRow}
+use Rattle.sprites.specs.Sprite.{source}
+use Rattle.entries.specs.Entry.{entryCells, shapedRow}
 use Rattle.obj.specs.Put as sprites
 use Rattle.obj.proofs.Shapes.{shapedRow-after}
-use Rattle.gpu.specs.Judge.{numberOf}
+use Rattle.judge.specs.Judge.{numberOf}
 use Rattle.gpu.specs.Line.{entriesAfter}
 use Rattle.gpu.specs.Draw.{given, draw}
 use Rattle.order.specs.Draws.{Attempt, rowLeft, numberGiven, rowAfter, putsPixels}

@@ -10,11 +10,12 @@ use borrow.Author.Tests.{not-true}
 use Rattle.memory.specs.Sizes.{displayHeight}
 use Rattle.regs.specs.Registers.{dispcnt, bldy}
 use Rattle.regs.specs.Display.{mode, forceBlank}
-use Rattle.obj.specs.Entry.{shapedRow}
-use Rattle.gpu.specs.Judge.{Call, haveLengths, inRanges, lineVerdict, verdict, numberOf}
+use Rattle.entries.specs.Entry.{shapedRow}
+use Rattle.references.specs.References.{inRanges}
+use Rattle.judge.specs.Judge.{Call, haveLengths, lineVerdict, verdict, numberOf}
 use Rattle.gpu.specs.Draw.{given, draw}
-use Rattle.gpu.specs.declared.judge.Verdict.{Verdict}
-use Rattle.gpu.specs.declared.judge.Verdict.the-variants.{
+use Rattle.judge.specs.declared.Verdict.{Verdict}
+use Rattle.judge.specs.declared.Verdict.the-variants.{
   BadReading,
   BadLength,
   BadLine,

@@ -10,9 +10,9 @@ use Rattle.rows.specs.Cells.{cellAt}
 use Rattle.regs.specs.Registers.{dispcnt}
 use Rattle.regs.specs.Display.{enableObj, forceBlank}
 use Rattle.regs.specs.Reading.{readingOf}
-use Rattle.obj.specs.Entry.{entryCells, windowMark, resetRow}
+use Rattle.entries.specs.Entry.{entryCells, windowMark, resetRow}
 use Rattle.obj.specs.Order.{Draw, Pixel, Holds, pixelsUpTo, windowUpTo}
-use Rattle.gpu.specs.Judge.{Call}
+use Rattle.judge.specs.Judge.{Call}
 use Rattle.gpu.specs.Draw.{draw}
 
 -- A draw of the list: what it is asked for, and the output that is lent to it.

@@ -16,11 +16,11 @@ use Rattle.rows.specs.Cells.{cellAt, Exact}
 use Rattle.rows.proofs.Below.{allBelow-at}
 use Rattle.rows.proofs.Cells.{length-rowOf, cellAt-rowOf, exact-rowOf, rowOf-ext}
 use Rattle.rows.proofs.Tab.{length-tab, getD-tab, tab-cong}
-use Rattle.obj.specs.Entry.{entryCells, semiMark, resetRow, wellShaped, shapedRow}
-use Rattle.obj.specs.declared.entry.Entry.{Entry}
-use Rattle.obj.proofs.Before.{or-split}
-use Rattle.obj.proofs.Shapes.{shapedRow-after, shapedRow-reset}
-use Rattle.gpu.specs.Judge.{Call, numberOf}
+use Rattle.entries.specs.Entry.{entryCells, semiMark, resetRow, wellShaped, shapedRow}
+use Rattle.entries.specs.declared.Entry.{Entry}
+use Rattle.entries.proofs.Shapes.{or-split, shapedRow-reset}
+use Rattle.obj.proofs.Shapes.{shapedRow-after}
+use Rattle.judge.specs.Judge.{Call, numberOf}
 use Rattle.gpu.specs.Draw.{given, draw}
 use Rattle.order.specs.Draws.{Attempt, rowLeft, rowAfter, putsPixels}
 use Rattle.order.proofs.Rows.{spriteRow, rowLeft-is}

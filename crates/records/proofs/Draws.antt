@@ -8,11 +8,11 @@ use lib.Dec.{eqb, ltb}
 use lib.ListN.{length}
 use borrow.Author.Tests.{eqb-true, ne-eqb}
 use Rattle.memory.specs.Sizes.{registersSize}
-use Rattle.gpu.specs.Judge.{Call, haveLengths, verdict, numberOf}
+use Rattle.judge.specs.Judge.{Call, haveLengths, verdict, numberOf}
 use Rattle.gpu.specs.Draw.{refused, given, draw, Draws}
-use Rattle.gpu.specs.declared.judge.Verdict.{Verdict}
-use Rattle.gpu.specs.declared.judge.Verdict.the-variants.{BadReading, BadLength}
-use Rattle.gpu.proofs.Verdicts.{lengths-are}
+use Rattle.judge.specs.declared.Verdict.{Verdict}
+use Rattle.judge.specs.declared.Verdict.the-variants.{BadReading, BadLength}
+use Rattle.judge.proofs.Verdicts.{lengths-are}
 use Rattle.records.specs.Entries.{rowBytes, recordsIn}
 use Rattle.records.specs.Draw.{RecordDrawing, writes, drawRecords, DrawsRecords}
 use Rattle.records.specs.Values.{rowRefusal, drawnRow}

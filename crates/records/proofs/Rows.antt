@@ -7,8 +7,8 @@ use lib.ListN.{length, getD}
 use Rattle.rows.specs.Cells.{rowOf}
 use Rattle.rows.proofs.Cells.{length-rowOf}
 use Rattle.rows.proofs.Passed.{Passed, filled}
-use Rattle.obj.specs.Entry.{entryCells}
-use Rattle.obj.specs.declared.entry.Entry.{Entry}
+use Rattle.entries.specs.Entry.{entryCells}
+use Rattle.entries.specs.declared.Entry.{Entry}
 use Rattle.records.specs.Entries.{entryOf, resetRecord, rowBytes}
 use Rattle.records.specs.declared.entry.ObjBufferEntry.{ObjBufferEntry}
 

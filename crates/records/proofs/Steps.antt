@@ -3,8 +3,8 @@
 use Prim.Native.Nat.{ℕ}
 use mathlib.Core.Path.{_≡_, sym, ap, _∙_}
 use lib.IntN.{ℤ}
-use Rattle.gpu.specs.Step.{stepped, stepNumber, referencesAfter}
-use Rattle.gpu.specs.declared.references.Stepped.{Stepped}
+use Rattle.references.specs.Step.{stepped, stepNumber, referencesAfter}
+use Rattle.references.specs.declared.Stepped.{Stepped}
 use Rattle.records.specs.Step.{stepsOf, referencesOf, movedTo, stepRecords, StepsRecords}
 use Rattle.records.specs.declared.affine.BgAffine.{BgAffine}
 

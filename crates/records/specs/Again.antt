@@ -3,7 +3,7 @@
 use mathlib.Core.Path.{_≡_}
 use mathlib.Core.List.{List, [], _∷_}
 use Rattle.rows.specs.Tab.{tab}
-use Rattle.obj.specs.Entry.{resetRow}
+use Rattle.entries.specs.Entry.{resetRow}
 use Rattle.gpu.specs.Draw.{draw}
 use Rattle.order.specs.Draws.{Attempt, rowAfter}
 use Rattle.records.specs.Entries.{resetRecord, rowBytes, recordsIn}

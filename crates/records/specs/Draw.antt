@@ -7,7 +7,7 @@ use mathlib.Core.List.{List}
 use lib.Dec.{eqb}
 use Rattle.regs.specs.Registers.{dispcnt}
 use Rattle.regs.specs.Display.{forceBlank}
-use Rattle.gpu.specs.Judge.{Call}
+use Rattle.judge.specs.Judge.{Call}
 use Rattle.gpu.specs.Draw.{draw}
 use Rattle.records.specs.Entries.{rowBytes, recordsIn}
 use Rattle.records.specs.declared.entry.ObjBufferEntry.{ObjBufferEntry}

@@ -7,8 +7,8 @@ use lib.ListN.{length, getD}
 use Rattle.rgb15.specs.Colour.{rgb}
 use Rattle.rows.specs.Cells.{cellAt, rowOf}
 use Rattle.rows.specs.Tab.{tab}
-use Rattle.obj.specs.Entry.{entryCells, resetEntry, semiMark, windowMark}
-use Rattle.obj.specs.declared.entry.Entry.{Entry}
+use Rattle.entries.specs.Entry.{entryCells, resetEntry, semiMark, windowMark}
+use Rattle.entries.specs.declared.Entry.{Entry}
 use Rattle.records.specs.declared.entry.ObjBufferEntry.{ObjBufferEntry}
 
 -- The entry of a record. A priority that a byte doesn't hold counts as 255, which no well-shaped entry has: so a record of

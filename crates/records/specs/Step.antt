@@ -3,8 +3,8 @@
 use Prim.Native.Nat.{ℕ}
 use mathlib.Core.Path.{_≡_}
 use lib.IntN.{ℤ}
-use Rattle.background.specs.Background.{References}
-use Rattle.gpu.specs.Step.{Steps, stepped, stepNumber, referencesAfter}
+use Rattle.references.specs.References.{References}
+use Rattle.references.specs.Step.{Steps, stepped, stepNumber, referencesAfter}
 use Rattle.records.specs.declared.affine.BgAffine.{BgAffine}
 use Rattle.records.specs.declared.affine.PairStep.{PairStep}
 

@@ -4,7 +4,7 @@ use Prim.Native.Nat.{ℕ}
 use mathlib.Core.Bool.{cond}
 use mathlib.Core.List.{List}
 use lib.Dec.{eqb, ltb}
-use Rattle.gpu.specs.Judge.{Call}
+use Rattle.judge.specs.Judge.{Call}
 use Rattle.gpu.specs.Draw.{draw}
 use Rattle.records.specs.Entries.{rowBytes, recordsIn}
 use Rattle.records.specs.Draw.{writes}

@@ -1,8 +1,8 @@
 // The line-end step on records (gpu/mod.rs, `BgAffine` and `handle_hblank_enter`).
 ghost use mathlib.Core.Path.{_≡_};
 ghost use Rattle.records.specs.Step.{movedTo, stepRecords};
-use gpu::Stepped;
-use gpu::step_references;
+use references::Stepped;
+use references::step_references;
 
 // A background's numbers for rotation and scaling: the matrix, the reference point as it was written, and as it is now.
 #[repr(C)]

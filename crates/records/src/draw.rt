@@ -2,7 +2,7 @@
 ghost use mathlib.Core.Path.{_≡_};
 ghost use lib.ListN.{length};
 ghost use Rattle.memory.specs.Sizes.{registersSize};
-ghost use Rattle.gpu.specs.Judge.{callOf};
+ghost use Rattle.judge.specs.Judge.{callOf};
 ghost use Rattle.gpu.specs.Draw.{draw};
 ghost use Rattle.records.specs.Entries.{rowBytes};
 ghost use Rattle.records.specs.Draw.{writes};

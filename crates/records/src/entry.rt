@@ -3,12 +3,12 @@ ghost use mathlib.Core.Path.{_≡_};
 ghost use Prim.Native.Nat.{_≤_, min};
 ghost use mathlib.Core.Bool.{cond};
 ghost use lib.ListN.{length};
-ghost use Rattle.obj.specs.Entry.{entriesSize};
+ghost use Rattle.entries.specs.Entry.{entriesSize};
 ghost use Rattle.records.specs.Entries.{entryOf, recordOf, rowBytes, recordsIn};
+use entries::Entry;
+use entries::entry_at;
+use entries::put_entry;
 use memory::DISPLAY_WIDTH;
-use obj::Entry;
-use obj::entry_at;
-use obj::put_entry;
 
 // Bytes of a row.
 const ENTRIES_SIZE: usize = 960;

@@ -2,7 +2,4 @@
 pub mod Registers
 pub mod Display
 pub mod Background
-pub mod Windows
-pub mod Layers
-pub mod Blend
 pub mod Reading

@@ -1,22 +1,14 @@
-// Registers decoded to values (gpu/regs.rs); windows, layers, the reading and the lent bytes have files of their own.
+// Registers decoded to values (gpu/regs.rs): display and background control. The reading and the lent bytes have files of their
+// own, and windows and blending crates.
 ghost use mathlib.Core.Path.{_≡_};
-ghost use Prim.Native.Nat.{_<_};
-ghost use Rattle.bits.specs.Bits.{bits};
 ghost use Rattle.regs.specs.Display.{DisplayControlOf, isUsingWindows, objMapping};
 ghost use Rattle.regs.specs.Background.{BgControlOf, RegularSize, charBlock, screenBlock, tileFormat};
-ghost use Rattle.regs.specs.Blend.{BlendControlOf, BlendAlphaOf, blendModeOf};
-ghost use Rattle.regs.specs.Layers.{targets};
-ghost use Rattle.regs.specs.Windows.{permits, everything};
 
 pub mod iodev;
-mod layer;
 mod reading;
-mod window;
 
-pub use layer::RenderLayerKind;
 use memory::PixelFormat;
 pub use reading::Reading;
-pub use window::Window;
 
 pub const SCREEN_BLOCK_SIZE: usize = 0x800;
 
@@ -146,115 +138,5 @@ impl BgControl {
         } else {
             PixelFormat::BPP4
         }
-    }
-}
-
-// Layers, as six bits: backgrounds 0 to 3, objects, backdrop.
-pub struct BlendFlags(pub u16);
-
-impl BlendFlags {
-    pub fn from(value: u16) -> BlendFlags
-        ensures { λ f. ⌜ f .0 ≡ bits 5 0 value ⌝ }
-    {
-        BlendFlags(value % 0x40)
-    }
-
-    // Whether the layer is one of these.
-    pub fn contains_render_layer(self, kind: RenderLayerKind) -> bool
-        ensures { λ r. ⌜ r ≡ targets (self .0) kind ⌝ }
-    {
-        (self.0 >> kind.target_bit()) % 2 == 1
-    }
-}
-
-pub enum BlendMode {
-    BldNone,
-    BldAlpha,
-    BldWhite,
-    BldBlack,
-}
-
-impl BlendMode {
-    pub fn from(value: u16) -> BlendMode
-        requires { ⌜ value < 4 ⌝ }
-        ensures { λ r. ⌜ r ≡ blendModeOf value ⌝ }
-    {
-        match value {
-            0 => BlendMode::BldNone,
-            1 => BlendMode::BldAlpha,
-            2 => BlendMode::BldWhite,
-            _ => BlendMode::BldBlack,
-        }
-    }
-}
-
-pub struct BlendControl {
-    pub target1: BlendFlags,
-    pub target2: BlendFlags,
-    pub mode: BlendMode,
-}
-
-impl BlendControl {
-    pub fn from(value: u16) -> BlendControl
-        ensures { λ b. ⌜ BlendControlOf value b ⌝ }
-    {
-        BlendControl {
-            target1: BlendFlags::from(value),
-            mode: BlendMode::from(value / 0x40 % 4),
-            target2: BlendFlags::from(value / 0x100),
-        }
-    }
-}
-
-pub struct BlendAlpha {
-    pub eva: u16,
-    pub evb: u16,
-}
-
-impl BlendAlpha {
-    pub fn from(value: u16) -> BlendAlpha
-        ensures { λ a. ⌜ BlendAlphaOf value a ⌝ }
-    {
-        BlendAlpha {
-            eva: value % 32,
-            evb: value / 0x100 % 32,
-        }
-    }
-}
-
-// What a region permits, as six bits: backgrounds 0 to 3, objects, effects.
-pub struct WindowFlags(pub u16);
-
-impl WindowFlags {
-    pub fn from(value: u16) -> WindowFlags
-        ensures { λ f. ⌜ f .0 ≡ bits 5 0 value ⌝ }
-    {
-        WindowFlags(value % 0x40)
-    }
-
-    // Everything permitted.
-    pub fn all() -> WindowFlags
-        ensures { λ f. ⌜ f .0 ≡ everything ⌝ }
-    {
-        WindowFlags(0x3f)
-    }
-
-    pub fn sfx_enabled(self) -> bool
-        ensures { λ r. ⌜ r ≡ permits (self .0) 5 ⌝ }
-    {
-        self.0 / 0x20 % 2 == 1
-    }
-
-    pub fn bg_enabled(self, bg: usize) -> bool
-        requires { ⌜ bg < 4 ⌝ }
-        ensures { λ r. ⌜ r ≡ permits (self .0) bg ⌝ }
-    {
-        (self.0 >> bg) % 2 == 1
-    }
-
-    pub fn obj_enabled(self) -> bool
-        ensures { λ r. ⌜ r ≡ permits (self .0) 4 ⌝ }
-    {
-        self.0 / 0x10 % 2 == 1
     }
 }

@@ -3,19 +3,16 @@
 use Prim.Native.Nat.{ℕ, _-_}
 use mathlib.Core.Bool.{Bool, cond, _&&_}
 use mathlib.Core.List.{List}
-use lib.Dec.{eqb}
 use Rattle.rgb15.specs.Colour.{blendWith, black, white}
 use Rattle.regs.specs.Registers.{bldcnt, bldalpha, bldy}
-use Rattle.regs.specs.Windows.{permits}
-use Rattle.regs.specs.Layers.{layerBit, targets}
-use Rattle.regs.specs.Blend.{target1, target2, blendMode, eva, evb}
+use Rattle.window.specs.Windows.{permits}
+use Rattle.blend.specs.Layers.{targets}
+use Rattle.blend.specs.Blend.{target1, target2, blendMode, eva, evb}
 use Rattle.regs.specs.Reading.{counted}
-use Rattle.regs.specs.declared.BlendMode.{BlendMode}
-use Rattle.regs.specs.declared.BlendMode.the-variants.{BldNone, BldAlpha, BldWhite, BldBlack}
-use Rattle.regs.specs.declared.layer.RenderLayerKind.{RenderLayerKind}
-use Rattle.regs.specs.declared.layer.RenderLayerKind.the-variants.{Objects}
+use Rattle.blend.specs.declared.BlendMode.{BlendMode}
+use Rattle.blend.specs.declared.BlendMode.the-variants.{BldNone, BldAlpha, BldWhite, BldBlack}
 use Rattle.regs.specs.declared.reading.Reading.{Reading}
-use Rattle.sfx.specs.Layers.{Pair}
+use Rattle.layers.specs.Layers.{Pair, isObject}
 
 -- What becomes of the top layer's colour.
 pub data Effect : Type 0 where
@@ -24,10 +21,6 @@ pub data Effect : Type 0 where
   controlBlend : Effect
   brighten : Effect
   darken : Effect
-
--- Whether the layer is that of objects.
-abbrev pub isObject : RenderLayerKind → Bool
-isObject kind = eqb (layerBit kind) (layerBit Objects)
 
 -- The control's effect, by whether the bottom is a second target: its blend needs that, else the top shows as it is.
 unfoldable pub controlEffect : BlendMode → Bool → Effect

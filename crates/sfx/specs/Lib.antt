@@ -1,7 +1,4 @@
--- How layers and effects make a pixel. Assumes nothing.
-pub mod Layers
+-- How effects make a pixel of layers. Assumes nothing.
 pub mod Effects
 pub mod Pixel
-pub mod Places
-pub mod Sorting
 pub mod Words

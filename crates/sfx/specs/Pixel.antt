@@ -4,11 +4,11 @@ use Prim.Native.Nat.{ℕ}
 use mathlib.Core.List.{List}
 use Rattle.rgb15.specs.Colour.{toRgb24}
 use Rattle.regs.specs.declared.reading.Reading.{Reading}
-use Rattle.obj.specs.Entry.{semiMark, windowMark}
-use Rattle.obj.specs.declared.entry.Entry.{Entry}
+use Rattle.entries.specs.Entry.{semiMark, windowMark}
+use Rattle.entries.specs.declared.Entry.{Entry}
 use Rattle.windows.specs.Region.{region, permitted}
 use Rattle.windows.specs.declared.WindowType.{WindowType}
-use Rattle.sfx.specs.Layers.{Layer, Pair, layers}
+use Rattle.layers.specs.Layers.{Layer, Pair, layers}
 use Rattle.sfx.specs.Effects.{Effect, effect, effectColor}
 
 -- The case of a column: its region, its top and bottom layer, and the effect.

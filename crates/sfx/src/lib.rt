@@ -11,36 +11,28 @@ ghost use Rattle.memory.specs.Palette.{backdrop};
 ghost use Rattle.memory.specs.Sizes.{paletteRamSize, registersSize};
 ghost use Rattle.regs.specs.Registers.{bldy};
 ghost use Rattle.regs.specs.Reading.{counted};
-ghost use Rattle.obj.specs.Entry.{entriesSize, entryCells};
+ghost use Rattle.entries.specs.Entry.{entriesSize, entryCells};
+ghost use Rattle.layers.specs.Places.{lineColor, placedLayers};
+ghost use Rattle.layers.specs.Words.{Unmarked, objectTag};
 ghost use Rattle.sfx.specs.Pixel.{pixel};
-ghost use Rattle.sfx.specs.Places.{lineColor, placedLayers};
-ghost use Rattle.sfx.specs.Words.{Unmarked, objectTag, backgroundPair, backgroundTop, columnColor, topColor, atColumn};
+ghost use Rattle.sfx.specs.Words.{columnColor, topColor, atColumn};
 ghost use Rattle.sfx.specs.Words.{WeightsOf, Weighed, isBlended, isFaded, fadeColor, fadeWeight, fadedColor, pairColor};
-
-mod layer;
-mod order;
-mod region;
-
-use layer::FIRST_TARGET;
-use layer::Layer;
-use layer::LayerPair;
-use layer::LineLayers;
-use layer::SECOND_TARGET;
-use layer::SEMI_OBJECT;
-use layer::choose;
-use layer::line_layers;
-use layer::object_tag;
-use layer::put_background;
-use layer::put_object;
-use layer::put_top;
-use layer::put_top_object;
+use blend::read_bldalpha;
+use blend::read_bldy;
+use entries::entry_at;
+use layers::FIRST_TARGET;
+use layers::LayerPair;
+use layers::LineLayers;
+use layers::SECOND_TARGET;
+use layers::SEMI_OBJECT;
+use layers::background_pair;
+use layers::choose;
+use layers::line_layers;
+use layers::line_regions;
+use layers::object_tag;
+use layers::put_object;
 use memory::DISPLAY_WIDTH;
-use obj::entry_at;
-pub use order::sort_backgrounds;
-use region::line_regions;
 use regs::Reading;
-use regs::iodev::read_bldalpha;
-use regs::iodev::read_bldy;
 use rgb15::Rgb15;
 use rows::put_word;
 
@@ -49,51 +41,6 @@ struct Weights {
     eva: u16,
     evb: u16,
     evy: u16,
-}
-
-// The layers of a column's backgrounds, put from the last place to the first: the first two that count, the backdrop
-// filling in.
-fn background_pair(
-    line: LineLayers,
-    region: u16,
-    color0: Rgb15,
-    color1: Rgb15,
-    color2: Rgb15,
-    color3: Rgb15,
-) -> LayerPair
-    ensures { λ r. ⌜ r ≡ backgroundPair line region (color0 .0) (color1 .0) (color2 .0) (color3 .0) ⌝ }
-{
-    let fourth = LayerPair {
-        top: line.backdrop,
-        top_tag: line.backdrop_tag,
-        bottom: line.backdrop,
-        bottom_tag: line.backdrop_tag,
-    };
-    let third = put_background(fourth, region / 0x8 % 2 == 1, line.place3, color3.0);
-    let second = put_background(third, region / 0x4 % 2 == 1, line.place2, color2.0);
-    let first = put_background(second, region / 0x2 % 2 == 1, line.place1, color1.0);
-    put_background(first, region / 0x1 % 2 == 1, line.place0, color0.0)
-}
-
-// The top one of them alone.
-fn background_top(
-    line: LineLayers,
-    region: u16,
-    color0: Rgb15,
-    color1: Rgb15,
-    color2: Rgb15,
-    color3: Rgb15,
-) -> Layer
-    ensures { λ r. ⌜ r ≡ backgroundTop line region (color0 .0) (color1 .0) (color2 .0) (color3 .0) ⌝ }
-{
-    let fourth = Layer {
-        color: line.backdrop,
-        tag: line.backdrop_tag,
-    };
-    let third = put_top(fourth, region / 0x8 % 2 == 1, line.place3, color3.0);
-    let second = put_top(third, region / 0x4 % 2 == 1, line.place2, color2.0);
-    let first = put_top(second, region / 0x2 % 2 == 1, line.place1, color1.0);
-    put_top(first, region / 0x1 % 2 == 1, line.place0, color0.0)
 }
 
 // A line's weights, as the reading counts them.
@@ -144,12 +91,12 @@ fn fade_weight(weights: Weights, mode: u16, permitted: bool, tag: u16) -> u16
 }
 
 // The Rust's do_brighten and do_darken, and no effect.
-fn do_fade(weights: Weights, mode: u16, permitted: bool, top: Layer) -> Rgb15
+fn do_fade(weights: Weights, mode: u16, permitted: bool, top: u16, tag: u16) -> Rgb15
     requires { ⌜ Weighed weights ⌝ }
-    ensures { λ c. ⌜ c .0 ≡ fadedColor weights mode permitted top ⌝ }
+    ensures { λ c. ⌜ c .0 ≡ fadedColor weights mode permitted top tag ⌝ }
 {
-    let evy = fade_weight(weights, mode, permitted, top.tag);
-    Rgb15(top.color).blend_with(fade_color(mode), 16 - evy, evy)
+    let evy = fade_weight(weights, mode, permitted, tag);
+    Rgb15(top).blend_with(fade_color(mode), 16 - evy, evy)
 }
 
 // These and the Rust's do_alpha: one blend for all.
@@ -185,7 +132,7 @@ fn finalize_pixel(
     do_effect(weights, line.mode, region / 0x20 % 2 == 1, layers)
 }
 
-// The colour of a column whose layers aren't blended, by the top alone.
+// The colour of a column whose layers aren't blended, by the top alone: the compiler drops the bottom.
 fn top_pixel(
     line: LineLayers,
     weights: Weights,
@@ -200,9 +147,15 @@ fn top_pixel(
     requires { ⌜ Weighed weights ⌝ }
     ensures { λ r. ⌜ r .0 ≡ topColor line weights region tag object (color0 .0) (color1 .0) (color2 .0) (color3 .0) ⌝ }
 {
-    let background = background_top(line, region, color0, color1, color2, color3);
-    let top = put_top_object(background, region / 0x10 % 2 == 1, tag, object);
-    do_fade(weights, line.mode, region / 0x20 % 2 == 1, top)
+    let backgrounds = background_pair(line, region, color0, color1, color2, color3);
+    let layers = put_object(backgrounds, region / 0x10 % 2 == 1, tag, object);
+    do_fade(
+        weights,
+        line.mode,
+        region / 0x20 % 2 == 1,
+        layers.top,
+        layers.top_tag,
+    )
 }
 
 // The colours of a line's entries.

@@ -14,12 +14,13 @@ use Rattle.memory.specs.Memory.{half}
 use Rattle.memory.specs.Sizes.{videoRamSize, paletteRamSize, oamSize, registersSize}
 use Rattle.regs.specs.Registers.{DISPCNT, BLDY}
 use Rattle.regs.specs.Display.{mode, forceBlank}
-use Rattle.obj.specs.Entry.{entryCells, entriesSize, shapedRow, resetRow}
-use Rattle.obj.proofs.Shapes.{shapedRow-reset}
-use Rattle.gpu.specs.Judge.{Call, outputSize, haveLengths, inRanges, lineVerdict, verdict}
+use Rattle.entries.specs.Entry.{entryCells, entriesSize, shapedRow, resetRow}
+use Rattle.entries.proofs.Shapes.{shapedRow-reset}
+use Rattle.references.specs.References.{inRanges}
+use Rattle.judge.specs.Judge.{Call, outputSize, haveLengths, lineVerdict, verdict}
 use Rattle.gpu.specs.Line.{entriesAfter, lineAfter}
 use Rattle.gpu.specs.Draw.{Draws}
-use Rattle.gpu.specs.declared.judge.Verdict.the-variants.{Accepted}
+use Rattle.judge.specs.declared.Verdict.the-variants.{Accepted}
 use Rattle.gpu.proofs.Given.{draws-accepted}
 use Rattle.tight.specs.Inputs.{firstLine, dark, lit, covered, lent}
 use Rattle.tight.proofs.Once.{draw-once}

@@ -11,9 +11,9 @@ use Rattle.rgb15.specs.Colour.{toRgb24}
 use Rattle.memory.specs.Sizes.{videoRamSize, paletteRamSize, oamSize, registersSize}
 use Rattle.regs.specs.Registers.{DISPCNT, BLDCNT}
 use Rattle.regs.specs.declared.reading.Reading.{Reading}
-use Rattle.obj.specs.declared.entry.Entry.{Entry}
+use Rattle.entries.specs.declared.Entry.{Entry}
 use Rattle.windows.specs.Region.{region, permitted}
-use Rattle.sfx.specs.Layers.{backgrounds, keep, stands, ordered, firstTwo, objectCounts, layers}
+use Rattle.layers.specs.Layers.{backgrounds, keep, stands, ordered, firstTwo, objectCounts, layers}
 use Rattle.sfx.specs.Effects.{effect, effectColor}
 use Rattle.sfx.specs.Pixel.{caseIn, caseOf, caseColor, pixel}
 use Rattle.gpu.specs.Line.{pixelAt, lineAfter}

@@ -14,16 +14,16 @@ use Rattle.memory.specs.declared.PixelFormat.the-variants.{BPP4}
 use Rattle.regs.specs.Registers.{DISPCNT}
 use Rattle.regs.specs.declared.ObjMapping.the-variants.{TwoDimension}
 use Rattle.regs.specs.declared.reading.Reading.{Reading}
-use Rattle.obj.specs.Oam.{attributes}
-use Rattle.obj.specs.Size.{widths, heights, objWidth, objHeight}
-use Rattle.obj.specs.Attrs.{objMode, objType, objAttrs, sprite}
-use Rattle.obj.specs.Place.{xOf, yOf, boxed, left, top, onLine}
-use Rattle.obj.specs.Tiles.{tilesStart, tileBase, tileRow, tileAt, texel}
-use Rattle.obj.specs.Color.{flip, normalColor}
-use Rattle.obj.specs.Sprite.{source, isShown, isPermitted, drawn, typedColor, spriteColor}
-use Rattle.obj.specs.declared.attrs.ObjAttrs.{ObjAttrs}
-use Rattle.obj.specs.declared.attrs.ObjMode.{ObjMode}
-use Rattle.obj.specs.declared.attrs.ObjType.{ObjType}
+use Rattle.sprites.specs.Oam.{attributes}
+use Rattle.sprites.specs.Size.{widths, heights, objWidth, objHeight}
+use Rattle.sprites.specs.Attrs.{objMode, objType, objAttrs, sprite}
+use Rattle.sprites.specs.Place.{xOf, yOf, boxed, left, top, onLine}
+use Rattle.sprites.specs.Tiles.{tilesStart, tileBase, tileRow, tileAt, texel}
+use Rattle.sprites.specs.Color.{flip, normalColor}
+use Rattle.sprites.specs.Sprite.{source, isShown, isPermitted, drawn, typedColor, spriteColor}
+use Rattle.sprites.specs.declared.attrs.ObjAttrs.{ObjAttrs}
+use Rattle.sprites.specs.declared.attrs.ObjMode.{ObjMode}
+use Rattle.sprites.specs.declared.attrs.ObjType.{ObjType}
 use Rattle.tight.specs.Inputs.{cornerSprites, covered}
 use Rattle.tight.proofs.Accepted.{pair, half-tab}
 

@@ -8,11 +8,12 @@ use mathlib.Core.List.{List·Memᴰ, Memᴰ·append-left, Memᴰ·append-right}
 use Rattle.rows.specs.Cells.{cellAt}
 use Rattle.memory.specs.Sizes.{registersSize}
 use Rattle.regs.specs.Registers.{DISPCNT}
-use Rattle.obj.specs.Entry.{entryCells, resetRow}
-use Rattle.obj.specs.Attrs.{sprite}
-use Rattle.obj.specs.Order.{Pixel, isVisible, isOpaque, pixelOf, pixelsUpTo}
-use Rattle.obj.specs.declared.attrs.ObjAttrs.{ObjAttrs}
-use Rattle.obj.proofs.Shapes.{shapedRow-reset}
+use Rattle.entries.specs.Entry.{entryCells, resetRow}
+use Rattle.sprites.specs.Attrs.{sprite}
+use Rattle.sprites.specs.Sprite.{isVisible}
+use Rattle.obj.specs.Order.{Pixel, isOpaque, pixelOf, pixelsUpTo}
+use Rattle.sprites.specs.declared.attrs.ObjAttrs.{ObjAttrs}
+use Rattle.entries.proofs.Shapes.{shapedRow-reset}
 use Rattle.order.specs.Draws.{Attempt, rowLeft, rowAfter, putsPixels, spritesOf, pixelsPut}
 use Rattle.order.proofs.Rows.{shapedRow-draws}
 use Rattle.order.proofs.Demand3.{demand-3, length-after-reset}

@@ -3,10 +3,11 @@
 use Prim.Native.Nat.{ℕ}
 use mathlib.Core.Path.{_≡_, refl, sym, ap, _∙_}
 use mathlib.Core.List.{List}
-use Rattle.gpu.specs.Judge.{Call}
+use Rattle.judge.specs.Judge.{Call}
 use Rattle.gpu.specs.Draw.{Drawing, draw, Draws}
-use Rattle.gpu.specs.Reset.{Answer, reset, Resets}
-use Rattle.gpu.specs.Step.{Steps, step, StepsTo}
+use Rattle.references.specs.Step.{Answer}
+use Rattle.gpu.specs.Reset.{reset, Resets}
+use Rattle.references.specs.Step.{Steps, step, StepsTo}
 
 -- ---- the draw
 

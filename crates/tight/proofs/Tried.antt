@@ -12,11 +12,11 @@ use Rattle.signed.proofs.Order.{and-both}
 use Rattle.rows.proofs.Below.{allBelow-at, allBelow-ext}
 use Rattle.rows.proofs.Cells.{length-rowOf}
 use Rattle.memory.specs.Memory.{byte}
-use Rattle.obj.specs.Entry.{entryCells, entriesSize, resetRow}
-use Rattle.gpu.specs.Judge.{Call, verdict}
+use Rattle.entries.specs.Entry.{entryCells, entriesSize, resetRow}
+use Rattle.judge.specs.Judge.{Call, verdict}
 use Rattle.gpu.specs.Line.{blankLine}
 use Rattle.gpu.specs.Draw.{draw}
-use Rattle.gpu.specs.declared.judge.Verdict.the-variants.{Accepted}
+use Rattle.judge.specs.declared.Verdict.the-variants.{Accepted}
 use Rattle.tight.specs.Useless.{Meets, RefusesAll, PaintsAlike, LeavesEntries, FirstOnly}
 use Rattle.tight.specs.Useless.{refuser, painter, keeper, isReset, starter}
 use Rattle.tight.proofs.Once.{draw-some}

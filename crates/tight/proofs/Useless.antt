@@ -8,8 +8,8 @@ use mathlib.Core.Logic.{_≢_}
 use Rattle.rows.specs.Cells.{cellAt}
 use Rattle.rows.specs.Words.{wordCells}
 use Rattle.rows.proofs.Cells.{cellAt-rowOf}
-use Rattle.obj.specs.Entry.{entryCells, resetRow}
-use Rattle.obj.specs.declared.entry.Entry.{Entry}
+use Rattle.entries.specs.Entry.{entryCells, resetRow}
+use Rattle.entries.specs.declared.Entry.{Entry}
 use Rattle.gpu.specs.Draw.{Drawing, Draws}
 use Rattle.tight.specs.Inputs.{dark, lit, covered, lent}
 use Rattle.tight.specs.Useless.{Program, Meets, RefusesAll, PaintsAlike, LeavesEntries, FirstOnly}

@@ -7,9 +7,10 @@ use mathlib.Core.List.{List, [], _∷_}
 use mathlib.Core.List.{List·Memᴰ, List·Memᴰ·head, List·Memᴰ·not-nil, Memᴰ·append-left}
 use mathlib.Core.List.{List·Memᴰ·append-cases, List·Memᴰ·eq-of-singleton}
 use mathlib.Core.Logic.{⊎-elim}
-use Rattle.obj.specs.Attrs.{sprite}
-use Rattle.obj.specs.Order.{Draw, Pixel, Holds, none, some, isVisible, isOpaque, pixelOf, pixelsUpTo}
-use Rattle.obj.specs.declared.entry.Entry.{Entry}
+use Rattle.sprites.specs.Attrs.{sprite}
+use Rattle.sprites.specs.Sprite.{isVisible}
+use Rattle.obj.specs.Order.{Draw, Pixel, Holds, none, some, isOpaque, pixelOf, pixelsUpTo}
+use Rattle.entries.specs.declared.Entry.{Entry}
 use Rattle.obj.proofs.Before.{isBefore-le}
 
 -- The entry's priority is at most that of any pixel put.

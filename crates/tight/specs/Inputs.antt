@@ -7,7 +7,7 @@ use lib.Dec.{eqb}
 use lib.IntN.{pos}
 use Rattle.rows.specs.Tab.{tab}
 use Rattle.memory.specs.Sizes.{videoRamSize, paletteRamSize, oamSize, registersSize}
-use Rattle.gpu.specs.Judge.{Call, callOf, outputSize}
+use Rattle.judge.specs.Judge.{Call, callOf, outputSize}
 
 -- A buffer of zeros.
 abbrev pub zeros : ℕ → List ℕ

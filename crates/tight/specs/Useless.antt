@@ -8,11 +8,11 @@ use lib.Dec.{eqb}
 use lib.ListN.{length}
 use Rattle.rows.specs.Below.{allBelow}
 use Rattle.memory.specs.Memory.{byte}
-use Rattle.obj.specs.Entry.{entriesSize, resetRow}
-use Rattle.gpu.specs.Judge.{Call, verdict}
+use Rattle.entries.specs.Entry.{entriesSize, resetRow}
+use Rattle.judge.specs.Judge.{Call, verdict}
 use Rattle.gpu.specs.Line.{blankLine}
 use Rattle.gpu.specs.Draw.{Drawing, draw, Draws}
-use Rattle.gpu.specs.declared.judge.Verdict.the-variants.{Accepted}
+use Rattle.judge.specs.declared.Verdict.the-variants.{Accepted}
 
 -- A program: what it gives for what it is asked for, the entries and the output.
 abbrev pub Program : Type 0

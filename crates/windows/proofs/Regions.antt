@@ -11,7 +11,7 @@ use Rattle.regs.specs.Registers.{dispcnt}
 use Rattle.regs.specs.Display.{enableObjWindow, isUsingWindows, DisplayControlOf}
 use Rattle.regs.specs.declared.DisplayControl.{DisplayControl}
 use Rattle.regs.specs.declared.reading.Reading.{Reading}
-use Rattle.obj.specs.Entry.{entryCells, windowMark}
+use Rattle.entries.specs.Entry.{entryCells, windowMark}
 use Rattle.windows.specs.Region.{region, permitted, usesWindows, inWindow0, inWindow1}
 use Rattle.windows.specs.Row.{wordIn, regionAt, regionRow}
 use Rattle.windows.specs.Walk.{ColumnsOf, walkedWord, walkedRow}

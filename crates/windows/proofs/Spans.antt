@@ -7,9 +7,9 @@ use lib.Dec.{leb, ltb}
 use borrow.Author.Tests.{ltb-true, ltb-false}
 use Rattle.rows.specs.Below.{between}
 use Rattle.rows.proofs.Below.{between-past}
-use Rattle.regs.specs.Windows.{left, right, top, bottom, WindowOf, rightEdge, inColumns, inRows}
-use Rattle.regs.specs.declared.window.Window.{Window}
-use Rattle.regs.proofs.Laws.{inside-none}
+use Rattle.window.specs.Windows.{left, right, top, bottom, WindowOf, rightEdge, inColumns, inRows}
+use Rattle.window.specs.declared.Window.{Window}
+use Rattle.window.proofs.Laws.{inside-none}
 use Rattle.windows.specs.Walk.{ColumnsOf}
 use Rattle.windows.specs.declared.Columns.{Columns}
 

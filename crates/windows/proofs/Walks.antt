@@ -10,7 +10,7 @@ use Rattle.rows.specs.Marks.{marked, markAll, countMarks, Clean}
 use Rattle.rows.specs.Tab.{tab, mapTab}
 use Rattle.rows.proofs.Marks.{marked-none, clean-none, countMarks-full, length-markAll, clean-markAll, marked-markAll}
 use Rattle.rows.proofs.Tab.{getD-of-tab, tab-cong, tab-replicate}
-use Rattle.obj.specs.Entry.{entryCells, windowMark}
+use Rattle.entries.specs.Entry.{entryCells, windowMark}
 use Rattle.windows.specs.Walk.{holds, walkedWord, walkedRow}
 use Rattle.windows.specs.declared.Columns.{Columns}
 use Rattle.windows.specs.declared.RegionWords.{RegionWords}

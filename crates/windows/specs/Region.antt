@@ -5,7 +5,7 @@ use mathlib.Core.Bool.{Bool, cond, not, _&&_}
 use mathlib.Core.List.{List}
 use Rattle.regs.specs.Registers.{dispcnt, win0h, win0v, win1h, win1v, win0Flags, win1Flags, winobjFlags, winoutFlags}
 use Rattle.regs.specs.Display.{enableWindow0, enableWindow1, enableObjWindow, isUsingWindows}
-use Rattle.regs.specs.Windows.{left, right, top, bottom, inColumns, inRows, everything}
+use Rattle.window.specs.Windows.{left, right, top, bottom, inColumns, inRows, everything}
 use Rattle.regs.specs.declared.reading.Reading.{Reading}
 use Rattle.regs.specs.declared.reading.Reading.the-variants.{R, H}
 use Rattle.windows.specs.declared.WindowType.{WindowType}

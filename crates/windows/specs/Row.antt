@@ -5,7 +5,7 @@ use mathlib.Core.List.{List}
 use Rattle.rows.specs.Cells.{cellAt}
 use Rattle.rows.specs.Tab.{tab}
 use Rattle.regs.specs.declared.reading.Reading.{Reading}
-use Rattle.obj.specs.Entry.{entryCells, windowMark}
+use Rattle.entries.specs.Entry.{entryCells, windowMark}
 use Rattle.windows.specs.Region.{region}
 use Rattle.windows.specs.declared.RegionWords.{RegionWords}
 use Rattle.windows.specs.declared.WindowType.{WindowType}

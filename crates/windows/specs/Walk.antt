@@ -7,7 +7,7 @@ use mathlib.Core.List.{List}
 use Rattle.rows.specs.Below.{between}
 use Rattle.rows.specs.Cells.{cellAt}
 use Rattle.rows.specs.Tab.{tab}
-use Rattle.obj.specs.Entry.{entryCells, windowMark}
+use Rattle.entries.specs.Entry.{entryCells, windowMark}
 use Rattle.windows.specs.declared.Columns.{Columns}
 use Rattle.windows.specs.declared.RegionWords.{RegionWords}
 

@@ -7,22 +7,22 @@ ghost use Rattle.rows.specs.Cells.{cellAt, only};
 ghost use Rattle.rows.specs.Marks.{markAll};
 ghost use Rattle.rows.specs.Tab.{tab, mapTab};
 ghost use Rattle.memory.specs.Sizes.{registersSize};
-ghost use Rattle.regs.specs.Windows.{inColumns, inRows};
-ghost use Rattle.obj.specs.Entry.{entriesSize, entryCells, windowMark};
+ghost use Rattle.window.specs.Windows.{inColumns, inRows};
+ghost use Rattle.entries.specs.Entry.{entriesSize, entryCells, windowMark};
 ghost use Rattle.windows.specs.Region.{permitted, inWindow0, inWindow1};
 ghost use Rattle.windows.specs.Row.{regionRow};
 ghost use Rattle.windows.specs.Walk.{holds, Spanned, ColumnsOf, walkedRow};
+use entries::entry_at;
 use memory::DISPLAY_WIDTH;
-use obj::entry_at;
 use regs::Reading;
-use regs::Window;
-use regs::WindowFlags;
 use regs::iodev::read_dispcnt;
-use regs::iodev::read_win0;
-use regs::iodev::read_win1;
-use regs::iodev::read_winobj_flags;
-use regs::iodev::read_winout_flags;
 use rows::count_marks;
+use window::Window;
+use window::WindowFlags;
+use window::read_win0;
+use window::read_win1;
+use window::read_winobj_flags;
+use window::read_winout_flags;
 
 // The Rust's kinds of window: a column's region.
 pub enum WindowType {

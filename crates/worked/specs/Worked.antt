@@ -12,10 +12,10 @@ use Rattle.memory.specs.Sizes.{registersSize}
 use Rattle.regs.specs.Registers.{BLDALPHA}
 use Rattle.regs.specs.declared.reading.Reading.the-variants.{R, H}
 use Rattle.regs.specs.Reading.{counted}
-use Rattle.regs.specs.Windows.{farEdge, inColumns}
-use Rattle.background.specs.Regular.{regularX, regularY, mapBlock, mapOffset}
+use Rattle.window.specs.Windows.{farEdge, inColumns}
+use Rattle.regular.specs.Regular.{regularX, regularY, mapBlock, mapOffset}
 use Rattle.background.specs.Bitmap.{bitmapPixel}
-use Rattle.obj.specs.Place.{xOf, yOf}
+use Rattle.sprites.specs.Place.{xOf, yOf}
 use Rattle.sfx.specs.Effects.{alpha, fade}
 
 -- Registers of zeros but for EVA, which is 31.

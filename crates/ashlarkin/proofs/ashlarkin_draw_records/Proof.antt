@@ -58,7 +58,7 @@ use denote.Triple.Walked.{says, Stay, Stays, gave-slice, stay-none, stay-none-sl
 use denote.Triple.Walked.{Goes, goes-none-slice, goes-gave-slice, Walks, ends-at, walked, walk-meets}
 use denote.Exit.{yes}
 use borrow.Author.Tests.{eqb-false}
-use Rattle.gpu.specs.Judge.{Call, callOf}
+use Rattle.judge.specs.Judge.{Call, callOf}
 use Rattle.gpu.specs.Draw as bytes
 use Rattle.records.specs.Entries.{rowBytes}
 use Rattle.records.specs.Draw.{DrawsRecords}

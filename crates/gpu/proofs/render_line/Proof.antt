@@ -11,9 +11,10 @@ use borrow.Author.Needs.{needs}
 use Rattle.memory.specs.Sizes.{registersSize}
 use Rattle.regs.specs.Registers.{dispcnt}
 use Rattle.regs.specs.Display.{mode}
-use Rattle.background.specs.Lent.{Lent}
-use Rattle.gpu.specs.Judge.{Call, callOf, inRanges}
-use Rattle.gpu.proofs.Verdicts.{references-are}
+use Rattle.regular.specs.Lent.{Lent}
+use Rattle.references.specs.References.{inRanges}
+use Rattle.judge.specs.Judge.{Call, callOf}
+use Rattle.references.proofs.Ranges.{references-are}
 use Rattle.gpu.proofs.Lines.{placed-same, line-ordered, lined-place}
 use Rattle.gpu.proofs.render_line.Statement.{statement}
 use Rattle.gpu.proofs.render_line.Tie as tie

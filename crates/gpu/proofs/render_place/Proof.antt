@@ -6,7 +6,7 @@ use borrow.Author.Needs.{needs}
 use Rattle.rgb15.specs.Colour.{rgb}
 use Rattle.rows.specs.Tab.{tab}
 use Rattle.background.specs.Background.{backgroundColor}
-use Rattle.gpu.proofs.Verdicts.{references-are, ranges-true}
+use Rattle.references.proofs.Ranges.{references-are, ranges-true}
 use Rattle.gpu.proofs.Lines.{placeLine-on, placeLine-none}
 use Rattle.gpu.proofs.render_place.Statement.{statement}
 use Rattle.gpu.proofs.render_place.Tie as tie

@@ -6,7 +6,7 @@ use mathlib.Core.Path.{refl}
 use lib.ListN.{getD}
 use Rattle.rgb15.specs.Colour.{rgb}
 use Rattle.rows.proofs.Passed.{passed-to}
-use Rattle.obj.specs.Entry.{entryCells}
+use Rattle.entries.specs.Entry.{entryCells}
 use Rattle.obj.proofs.Pixels.{PutPart, putPart-from, putPart-inside}
 use Rattle.obj.proofs.put_row.Statement.{statement}
 use Rattle.obj.proofs.put_row.Tie as tie

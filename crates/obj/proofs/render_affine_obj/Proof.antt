@@ -4,9 +4,9 @@ use Prim.Native.Nat.{_+_, _-_, _^_}
 use lib.IntN.{subℕ}
 use native.Mathlib.Omega.{arith}
 use borrow.Author.Needs.{needs}
-use Rattle.obj.specs.Color.{colorAt, affineColor}
+use Rattle.sprites.specs.Color.{colorAt, affineColor}
 use Rattle.obj.specs.Turn.{pointAt}
-use Rattle.obj.specs.Oam.{matrix}
+use Rattle.sprites.specs.Oam.{matrix}
 use Rattle.obj.proofs.Colors.{affineColor-inside, affineColor-outside}
 use Rattle.obj.proofs.Pixels.{PutPart, putPart-from, putPart-inside, putPart-to}
 use Rattle.obj.proofs.render_affine_obj.Statement.{statement}

@@ -7,7 +7,7 @@ use borrow.Author.Needs.{needs}
 use Rattle.rgb15.specs.Colour.{rgb}
 use Rattle.obj.proofs.Colors.{normalColor-outside}
 use Rattle.obj.proofs.Pixels.{putRow-none, putRow-part}
-use Rattle.obj.proofs.Places.{boxed-normal, between-none}
+use Rattle.sprites.proofs.Places.{boxed-normal, between-none}
 use Rattle.obj.proofs.Texels.{normalColor-row}
 use Rattle.obj.proofs.render_normal_obj.Statement.{statement}
 use Rattle.obj.proofs.render_normal_obj.Tie as tie

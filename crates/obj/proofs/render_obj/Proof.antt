@@ -3,9 +3,9 @@
 use mathlib.Core.Path.{sym, ap, _∙_}
 use native.Mathlib.Omega.{arith}
 use borrow.Author.Needs.{needs}
-use Rattle.obj.specs.Sprite.{drawn}
-use Rattle.obj.proofs.Decode.{width-whole}
-use Rattle.obj.proofs.Drawn.{drawn-onLine}
+use Rattle.sprites.specs.Sprite.{drawn}
+use Rattle.sprites.proofs.Decode.{width-whole}
+use Rattle.sprites.proofs.Drawn.{drawn-onLine}
 use Rattle.obj.proofs.Steps.{step-none, step-drawn}
 use Rattle.obj.proofs.render_obj.Statement.{statement}
 use Rattle.obj.proofs.render_obj.Tie as tie

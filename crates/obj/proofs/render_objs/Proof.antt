@@ -3,7 +3,7 @@
 use Prim.Native.Nat.{_-_}
 use native.Mathlib.Omega.{arith}
 use Rattle.rows.proofs.Passed.{composed-all}
-use Rattle.obj.specs.Entry.{entryCells}
+use Rattle.entries.specs.Entry.{entryCells}
 use Rattle.obj.proofs.Steps.{SpritesUpTo, sprites-first, sprites-next, source-is, rowAfter-is}
 use Rattle.obj.proofs.render_objs.Statement.{statement}
 use Rattle.obj.proofs.render_objs.Tie as tie

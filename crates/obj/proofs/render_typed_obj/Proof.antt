@@ -3,7 +3,7 @@
 use native.Mathlib.Omega.{arith}
 use mathlib.Core.Path.{refl}
 use borrow.Author.Needs.{needs}
-use Rattle.obj.specs.Sprite.{typedColor}
+use Rattle.sprites.specs.Sprite.{typedColor}
 use Rattle.obj.proofs.Pixels.{putRow-none}
 use Rattle.obj.proofs.Steps.{putRow-typed, putRow-affine}
 use Rattle.obj.proofs.render_typed_obj.Statement.{statement}

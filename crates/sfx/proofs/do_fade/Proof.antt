@@ -9,7 +9,7 @@ returns : tie.Need-returns
 returns c =
     let other = c .before in
     let weight = other .before in
-    fadedColor-is (weight .before .pre) _ _ _
+    fadedColor-is (weight .before .pre) _ _ _ _
     (weight .fade-weight .ensures .0)
     (other .fade-color .ensures)
     (c .blend-with .ensures)

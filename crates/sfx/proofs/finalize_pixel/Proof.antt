@@ -6,7 +6,11 @@ use Rattle.sfx.proofs.finalize_pixel.Statement.{statement}
 use Rattle.sfx.proofs.finalize_pixel.Tie as tie
 
 returns : tie.Need-returns
-returns c = search (needs, columnColor-is)
+returns c =
+    columnColor-is _ _ _ _ _ _ _ _ _
+    (c .before .before .background-pair .ensures)
+    (c .before .put-object .ensures)
+    (c .do-effect .ensures)
 
 pub finalize-pixel-spec : {M : Type 1} → statement M
 finalize-pixel-spec =

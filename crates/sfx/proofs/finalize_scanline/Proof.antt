@@ -1,8 +1,8 @@
 -- sfx::finalize_scanline meets its contract: the row that its calls make has each column's pixel.
 -- Assumes nothing.
 use borrow.Author.Needs.{needs}
+use Rattle.layers.proofs.Marks.{unmarked, object-bound}
 use Rattle.sfx.proofs.Columns.{scanline-is}
-use Rattle.sfx.proofs.Tops.{unmarked, object-bound}
 use Rattle.sfx.proofs.finalize_scanline.Statement.{statement}
 use Rattle.sfx.proofs.finalize_scanline.Tie as tie
 

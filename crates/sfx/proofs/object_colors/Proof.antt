@@ -4,8 +4,8 @@ use Prim.Native.Nat.{_-_}
 use mathlib.Core.Path.{refl, ap}
 use Rattle.rows.specs.Cells.{cellAt}
 use Rattle.rows.proofs.Tabbed.{Tabbed, tabbed-none, tabbed-more, tabbed-all}
-use Rattle.obj.specs.Entry.{entryCells}
-use Rattle.obj.specs.declared.entry.Entry.{Entry}
+use Rattle.entries.specs.Entry.{entryCells}
+use Rattle.entries.specs.declared.Entry.{Entry}
 use Rattle.sfx.proofs.Words.{halves-fit, next-fits, next-less}
 use Rattle.sfx.proofs.object_colors.Statement.{statement}
 use Rattle.sfx.proofs.object_colors.Tie as tie

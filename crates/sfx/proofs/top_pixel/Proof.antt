@@ -6,7 +6,11 @@ use Rattle.sfx.proofs.top_pixel.Statement.{statement}
 use Rattle.sfx.proofs.top_pixel.Tie as tie
 
 returns : tie.Need-returns
-returns c = search (needs, topColor-is)
+returns c =
+    topColor-is _ _ _ _ _ _ _ _ _
+    (c .before .before .background-pair .ensures)
+    (c .before .put-object .ensures)
+    (c .do-fade .ensures)
 
 pub top-pixel-spec : {M : Type 1} → statement M
 top-pixel-spec =

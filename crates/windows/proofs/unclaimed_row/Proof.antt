@@ -7,7 +7,7 @@ use borrow.Author.Tests.{not-true, not-false}
 use Rattle.rows.specs.Cells.{cellAt}
 use Rattle.rows.proofs.Tabbed.{Tabbed, tabbed-none, tabbed-more, tabbed-all}
 use Rattle.rows.proofs.Tab.{tab-replicate}
-use Rattle.obj.specs.Entry.{entryCells, windowMark}
+use Rattle.entries.specs.Entry.{entryCells, windowMark}
 use Rattle.windows.proofs.unclaimed_row.Statement.{statement}
 use Rattle.windows.proofs.unclaimed_row.Tie as tie
 

@@ -3,7 +3,7 @@
 use mathlib.Core.Path.{ap, sym, _∙_}
 use borrow.Author.Needs.{needs}
 use borrow.Author.Tests.{eq-eqb, ne-eqb}
-use Rattle.obj.specs.Entry.{windowMark}
+use Rattle.entries.specs.Entry.{windowMark}
 use Rattle.windows.proofs.unclaimed_word.Statement.{statement}
 use Rattle.windows.proofs.unclaimed_word.Tie as tie
 

@@ -10,7 +10,7 @@ use Rattle.rgb15.specs.Colour.{rgb, transparent}
 use Rattle.signed.specs.Signed.{inRange}
 use Rattle.rows.proofs.Tabbed.{Tabbed, tabbed-none, tabbed-all}
 use Rattle.background.specs.Bitmap.{bitmapColor}
-use Rattle.background.proofs.Lines.{colored-more, column-fits, bytes-fit, next-fits, fewer-left}
+use Rattle.regular.proofs.Lines.{colored-more, column-fits, bytes-fit, next-fits, fewer-left}
 use Rattle.background.proofs.Points.{bitmapViewPort-sides, bitmapColor-is}
 use Rattle.background.proofs.bitmap.render_bitmap.Statement.{statement}
 use Rattle.background.proofs.bitmap.render_bitmap.Tie as tie

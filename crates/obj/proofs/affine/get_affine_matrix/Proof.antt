@@ -2,8 +2,8 @@
 -- Assumes nothing.
 use native.Mathlib.Omega.{arith}
 use borrow.Author.Needs.{needs}
-use Rattle.obj.specs.Oam.{matrix}
-use Rattle.obj.proofs.Decode.{signed16-read}
+use Rattle.sprites.specs.Oam.{matrix}
+use Rattle.sprites.proofs.Decode.{signed16-read}
 use Rattle.obj.proofs.affine.get_affine_matrix.Statement.{statement}
 use Rattle.obj.proofs.affine.get_affine_matrix.Tie as tie
 

@@ -4,10 +4,10 @@ use mathlib.Core.Path.{_≡_, sym, ap, ap₂, _∙_}
 use mir.Syntax.{w16, w32}
 use mir.Facts.{toZ-ofZ}
 use borrow.Author.Needs.{needs}
-use Rattle.gpu.specs.Step.{stepped}
-use Rattle.gpu.proofs.Sums.{machine-are}
-use Rattle.gpu.proofs.Verdicts.{references-are}
-use Rattle.gpu.proofs.Answers.{steps-are, stepped-ranges}
+use Rattle.references.specs.Step.{stepped}
+use Rattle.references.proofs.Sums.{machine-are}
+use Rattle.references.proofs.Ranges.{references-are}
+use Rattle.references.proofs.Answers.{steps-are, stepped-ranges}
 use Rattle.records.specs.Step.{stepsOf, referencesOf, movedTo}
 use Rattle.records.proofs.Steps.{steps-refused, steps-done}
 use Rattle.records.proofs.affine.step_pair.Statement.{statement}

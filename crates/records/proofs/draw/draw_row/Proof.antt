@@ -3,7 +3,7 @@
 use mathlib.Core.Path.{sym, ap, ap₂, _∙_}
 use mir.Facts.{toZ-ofZ}
 use borrow.Author.Needs.{needs}
-use Rattle.gpu.specs.Judge.{Call, callOf}
+use Rattle.judge.specs.Judge.{Call, callOf}
 use Rattle.gpu.specs.Draw.{draw, Draws}
 use Rattle.gpu.proofs.Given.{calls-are}
 use Rattle.records.specs.Entries.{rowBytes}

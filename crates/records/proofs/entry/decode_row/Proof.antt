@@ -6,7 +6,7 @@ use mathlib.Core.Path.{ap, _∙_}
 use borrow.Author.Needs.{needs}
 use Rattle.rows.specs.Cells.{cellAt}
 use Rattle.rows.proofs.Tabbed.{Tabbed, tabbed-none, tabbed-more, tabbed-all}
-use Rattle.obj.specs.Entry.{entryCells}
+use Rattle.entries.specs.Entry.{entryCells}
 use Rattle.records.specs.Entries.{recordOf, recordsIn}
 use Rattle.records.proofs.entry.decode_row.Statement.{statement}
 use Rattle.records.proofs.entry.decode_row.Tie as tie

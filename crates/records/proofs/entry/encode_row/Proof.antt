@@ -7,7 +7,7 @@ use mathlib.Core.Path.{refl, ap, _∙_}
 use lib.ListN.{length}
 use borrow.Author.Needs.{needs}
 use Rattle.rows.proofs.Passed.{Passed, started, turned}
-use Rattle.obj.specs.Entry.{entryCells}
+use Rattle.entries.specs.Entry.{entryCells}
 use Rattle.records.specs.Entries.{entryOf, resetRecord}
 use Rattle.records.specs.declared.entry.ObjBufferEntry.{ObjBufferEntry}
 use Rattle.records.proofs.Rows.{entryAt, getD-within, rowBytes-filled}

@@ -1,0 +1,17 @@
+-- background::affine::texture_size meets its contract: 128 shifted by a size loses no bit, and the bias is a multiple of each side.
+-- Assumes nothing.
+use mathlib.Core.Path.{_≡_}
+use Prim.Native.Nat.{_*_, _%_, _^_}
+use native.Mathlib.Omega.{arith}
+use lib.Pow.{shl-exact}
+use borrow.Author.Needs.{needs}
+use Rattle.signed.proofs.Point.{point-sides}
+use Rattle.background.proofs.Points.{affineSide-bound}
+use Rattle.background.proofs.affine.texture_size.Statement.{statement}
+use Rattle.background.proofs.affine.texture_size.Tie as tie
+
+returns : tie.Need-returns
+returns c = rw (shl-exact {a = 128} 8 (c .args .size) 32 (omega arith) (omega arith)) (search (needs, point-sides, affineSide-bound))
+
+pub texture-size-spec : {M : Type 1} → statement M
+texture-size-spec = tie.close (tie.spec (search needs) returns)

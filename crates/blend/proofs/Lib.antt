@@ -1,0 +1,2 @@
+-- The laws of layers. Assumes nothing.
+pub mod Laws

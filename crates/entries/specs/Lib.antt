@@ -1,0 +1,3 @@
+-- What the entries of a row are. Assumes nothing.
+pub mod Entry
+pub mod Word

@@ -1,0 +1,96 @@
+-- The two layers of a column (01, "Windows and blending", its first paragraph; GBATEK, "LCD I/O BG Control", "LCD I/O Window
+-- Feature", "LCD I/O Color Special Effects"). Assumes nothing.
+use Prim.Native.Nat.{ℕ}
+use mathlib.Core.Bool.{Bool, false, cond, not, _&&_}
+use mathlib.Core.List.{List, [], _∷_, _++_, map}
+use lib.Dec.{eqb, leb}
+use lib.ListN.{getD}
+use Rattle.rgb15.specs.Colour.{isTransparent}
+use Rattle.regs.specs.Registers.{dispcnt, bgcnt}
+use Rattle.regs.specs.Display.{enableBg, enableObj}
+use Rattle.regs.specs.Background.{priority}
+use Rattle.window.specs.Windows.{permits}
+use Rattle.blend.specs.Layers.{backgroundLayer, layerBit}
+use Rattle.blend.specs.declared.layer.RenderLayerKind.{RenderLayerKind}
+use Rattle.blend.specs.declared.layer.RenderLayerKind.the-variants.{Objects, Backdrop}
+use Rattle.entries.specs.declared.Entry.{Entry}
+
+-- A layer at a column: its kind, its priority number and its colour.
+pub record Layer : Type 0 where
+  pub kind : RenderLayerKind
+  pub priority : ℕ
+  pub color : ℕ
+
+-- Whether the layer is that of objects.
+abbrev pub isObject : RenderLayerKind → Bool
+isObject kind = eqb (layerBit kind) (layerBit Objects)
+
+-- Those of the list that the test picks, in their order.
+unfoldable pub keep : {A : Type 0} → (A → Bool) → List A → List A
+keep test [] = []
+keep test (a ∷ rest) = cond (test a) (a ∷ keep test rest) (keep test rest)
+
+-- Whether a background is on and has the priority (LCD I/O Display Control, LCD I/O BG Control).
+unfoldable pub stands : List ℕ → ℕ → ℕ → Bool
+stands registers p bg = getD (enableBg (dispcnt registers)) bg false && eqb (priority (bgcnt registers bg)) p
+
+-- The backgrounds that are on and have the priority, by number.
+abbrev pub standing : List ℕ → ℕ → List ℕ
+standing registers p = keep (stands registers p) (0 ∷ 1 ∷ 2 ∷ 3 ∷ [])
+
+-- Backgrounds stand in order of (priority, number); those that are off don't.
+unfoldable pub ordered : List ℕ → List ℕ
+ordered registers = standing registers 0 ++ standing registers 1 ++ standing registers 2 ++ standing registers 3
+
+-- A background as a layer, with its colour at the column.
+abbrev pub background : List ℕ → ℕ → ℕ → Layer
+background registers bg color =
+    record { kind = backgroundLayer bg; priority = priority (bgcnt registers bg); color = color }
+
+-- The backgrounds as layers in their order, by the colour of each at the column; one that the mode doesn't have is
+-- transparent, so it isn't composed.
+abbrev pub backgrounds : List ℕ → (ℕ → ℕ) → List Layer
+backgrounds registers color = map (λ bg. background registers bg (color bg)) (ordered registers)
+
+-- The backdrop fills in with priority number 4, after all others.
+abbrev pub backdropLayer : ℕ → Layer
+backdropLayer color = record { kind = Backdrop; priority = 4; color = color }
+
+-- The pixel of the column's entry as a layer.
+abbrev pub objectLayer : Entry → Layer
+objectLayer e = record { kind = Objects; priority = e .priority; color = e .color .0 }
+
+-- A background counts if the region's flags permit it and its pixel is opaque.
+unfoldable pub counts : ℕ → Layer → Bool
+counts flags l = permits flags (layerBit (l .kind)) && not (isTransparent (l .color))
+
+-- Objects count if the flags permit them, sprites are on, and the pixel is opaque.
+unfoldable pub objectCounts : List ℕ → ℕ → Entry → Bool
+objectCounts registers flags e =
+    (permits flags (layerBit Objects) && enableObj (dispcnt registers)) && not (isTransparent (e .color .0))
+
+-- The two layers that a column's pixel is made of.
+pub record Pair : Type 0 where
+  pub top : Layer
+  pub bottom : Layer
+
+-- The first two backgrounds that count are top and bottom; the backdrop fills in.
+unfoldable pub firstTwo : ℕ → Layer → List Layer → Pair
+firstTwo flags backdrop ls =
+    record { top = getD (keep (counts flags) ls) 0 backdrop; bottom = getD (keep (counts flags) ls) 1 backdrop }
+
+-- An object pixel goes on top if its priority is at most the top's, else second if at most the bottom's.
+unfoldable pub placed : Layer → Pair → Pair
+placed object p =
+    cond (leb (object .priority) (p .top .priority))
+    (record { top = object; bottom = p .top })
+    (cond (leb (object .priority) (p .bottom .priority))
+    (record { top = p .top; bottom = object })
+    p)
+
+-- Top and bottom of a column: by the registers, the region's flags, the backdrop's colour, the backgrounds in their order
+-- and the column's entry.
+unfoldable pub layers : List ℕ → ℕ → ℕ → List Layer → Entry → Pair
+layers registers flags backdrop bgs e =
+    let two = firstTwo flags (backdropLayer backdrop) bgs in
+    cond (objectCounts registers flags e) (placed (objectLayer e) two) two

@@ -1,0 +1,5 @@
+-- What the two layers of a column are. Assumes nothing.
+pub mod Layers
+pub mod Places
+pub mod Sorting
+pub mod Words

@@ -1,0 +1,2 @@
+-- What the rows of a tile are. Assumes nothing.
+pub mod Flip

@@ -1,0 +1,116 @@
+// Rows of a tile, for backgrounds and sprites alike (gpu/mod.rs, its reads).
+ghost use mathlib.Core.Path.{_≡_};
+ghost use Prim.Native.Nat.{_+_, _*_, _≤_, _<_};
+ghost use lib.Dec.{eqb};
+ghost use lib.ListN.{length, getD};
+ghost use Rattle.rgb15.specs.Colour.{rgb};
+ghost use Rattle.rows.specs.Below.{allBelow};
+ghost use Rattle.rows.specs.Tab.{tab};
+ghost use Rattle.memory.specs.Memory.{half};
+ghost use Rattle.memory.specs.Palette.{paletteColor};
+ghost use Rattle.memory.specs.Sizes.{videoRamSize, paletteRamSize};
+ghost use Rattle.memory.specs.Tiles.{colours, tilePixel};
+ghost use Rattle.tiles.specs.Flip.{flipped};
+use memory::PixelFormat;
+use memory::get_palette_color;
+use memory::read_16;
+use memory::read_pixel_index;
+use rgb15::Rgb15;
+
+// The colour of a pixel of the tile at `tile_addr`, from a bank of the background's half of the palette or, at offset 0x200, the
+// sprites'.
+pub fn tile_color(
+    vram: &[u8],
+    palette: &[u8],
+    offset: usize,
+    tile_addr: usize,
+    x: usize,
+    y: usize,
+    format: PixelFormat,
+    bank: usize,
+) -> Rgb15
+    requires { ⌜ (length (now vram) ≡ videoRamSize) × (length (now palette) ≡ paletteRamSize) × (offset ≤ 0x200)
+        × («tile_addr» + 63 < videoRamSize) × (x < 8) × (y < 8) × (16 * bank + colours format ≤ 256) ⌝ }
+    ensures { λ c. ⌜ c .0 ≡ paletteColor (now (palette .entry)) offset (tilePixel (now (vram .entry)) «tile_addr» x y format) bank ⌝ }
+{
+    let index = read_pixel_index(vram, tile_addr, x, y, format);
+    get_palette_color(palette, index, bank, offset)
+}
+
+// A row, from right to left if it is flipped.
+fn flip_row(row: [Rgb15; 8], flip: bool) -> [Rgb15; 8]
+    requires { ⌜ length row ≡ 8 ⌝ }
+    ensures { λ r. ⌜ r ≡ tab (λ x. getD row (flipped flip x) (rgb 0)) 8 ⌝ }
+{
+    if flip {
+        [
+            row[7],
+            row[6],
+            row[5],
+            row[4],
+            row[3],
+            row[2],
+            row[1],
+            row[0],
+        ]
+    } else {
+        row
+    }
+}
+
+// The eight colours of a row of the tile at `tile_addr`, from right to left if it is flipped.
+pub fn tile_row(
+    vram: &[u8],
+    palette: &[u8],
+    offset: usize,
+    tile_addr: usize,
+    y: usize,
+    format: PixelFormat,
+    bank: usize,
+    flip: bool,
+) -> [Rgb15; 8]
+    requires { ⌜ (length (now vram) ≡ videoRamSize) × (length (now palette) ≡ paletteRamSize) × (offset ≤ 0x200)
+        × («tile_addr» + 63 < videoRamSize) × (y < 8) × (16 * bank + colours format ≤ 256) ⌝ }
+    ensures { λ r. ⌜ r ≡ tab (λ x. rgb (paletteColor (now (palette .entry)) offset
+        (tilePixel (now (vram .entry)) «tile_addr» (flipped flip x) y format) bank)) 8 ⌝ }
+{
+    let row = [
+        tile_color(vram, palette, offset, tile_addr, 0, y, format, bank),
+        tile_color(vram, palette, offset, tile_addr, 1, y, format, bank),
+        tile_color(vram, palette, offset, tile_addr, 2, y, format, bank),
+        tile_color(vram, palette, offset, tile_addr, 3, y, format, bank),
+        tile_color(vram, palette, offset, tile_addr, 4, y, format, bank),
+        tile_color(vram, palette, offset, tile_addr, 5, y, format, bank),
+        tile_color(vram, palette, offset, tile_addr, 6, y, format, bank),
+        tile_color(vram, palette, offset, tile_addr, 7, y, format, bank),
+    ];
+    flip_row(row, flip)
+}
+
+// Two halfwords as a word, the low one first.
+fn word_of(low: u16, high: u16) -> u32
+    ensures { λ r. ⌜ r ≡ low + 0x10000 * high ⌝ }
+{
+    low as u32 + 0x10000 * (high as u32)
+}
+
+// The little-endian word at `at`.
+fn read_32(bytes: &[u8], at: usize) -> u32
+    requires { ⌜ at + 3 < length (now bytes) ⌝ }
+    ensures { λ r. ⌜ r ≡ half (now (bytes .entry)) at + 0x10000 * half (now (bytes .entry)) (at + 2) ⌝ }
+{
+    word_of(read_16(bytes, at), read_16(bytes, at + 2))
+}
+
+// Whether every pixel of a row of the tile at `tile_addr` has index 0. Its bytes are one word, or two.
+pub fn is_empty_row(vram: &[u8], tile_addr: usize, y: usize, format: PixelFormat) -> bool
+    requires { ⌜ (length (now vram) ≡ videoRamSize) × («tile_addr» + 63 < videoRamSize) × (y < 8) ⌝ }
+    ensures { λ r. ⌜ r ≡ allBelow (λ x. eqb (tilePixel (now (vram .entry)) «tile_addr» x y format) 0) 8 ⌝ }
+{
+    match format {
+        PixelFormat::BPP4 => read_32(vram, tile_addr + 4 * y) == 0,
+        PixelFormat::BPP8 => {
+            (read_32(vram, tile_addr + 8 * y) == 0) & (read_32(vram, tile_addr + 8 * y + 4) == 0)
+        }
+    }
+}

@@ -1,0 +1,2 @@
+-- The laws of windows. Assumes nothing.
+pub mod Laws

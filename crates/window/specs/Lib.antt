@@ -1,0 +1,2 @@
+-- What a window holds and permits. Assumes nothing.
+pub mod Windows
