@@ -3,7 +3,7 @@ ghost use Rattle.judge.specs.Judge.{callOf};
 ghost use Rattle.gpu.specs.Draw.{Draws};
 ghost use Rattle.gpu.specs.Reset.{Resets};
 ghost use Rattle.references.specs.Step.{StepsTo};
-ghost use Rattle.records.specs.Draw.{DrawsRecords};
+ghost use Rattle.drawn.specs.Draw.{DrawsRecords};
 ghost use Rattle.records.specs.Step.{StepsRecords};
 use records::BgAffine;
 use records::ObjBufferEntry;
@@ -102,12 +102,12 @@ pub extern "C" fn ashlarkin_draw_records(
         (now (vram .entry)) (now (palette .entry)) (now (oam .entry)) (now (registers .entry)))
         (now (entries .entry)) (now (output .entry)) n (now (entries .exit)) (now (output .exit)) ⌝ }
 {
-    let refusal = records::judge_row(reading, entries.len());
+    let refusal = drawn::judge_row(reading, entries.len());
     if refusal != 0 {
         return refusal;
     }
     let row = records::load_row(entries);
-    let drawn = records::draw_row(
+    let drawn = drawn::draw_row(
         row,
         reading,
         line,

@@ -7,9 +7,11 @@ ghost use lib.ListN.{length};
 ghost use Rattle.rows.specs.Cells.{cellAt, putCell};
 ghost use Rattle.entries.specs.Entry.{entriesSize, entryCells, resetEntry, resetRow, wellShaped, shapedRow};
 ghost use Rattle.entries.specs.Word.{entryOf};
-use memory::DISPLAY_WIDTH;
 use rgb15::Rgb15;
 use rows::word_at;
+
+// Entries of a row, one for each column of the screen.
+const ENTRIES: usize = 240;
 
 // Bytes of an entry.
 const ENTRY_SIZE: usize = 4;
@@ -65,7 +67,7 @@ pub fn reset_row(entries: &mut [u8])
     ensures { λ _. ⌜ now (entries .exit) ≡ resetRow ⌝ }
 {
     let mut k: usize = 0;
-    while k < DISPLAY_WIDTH {
+    while k < ENTRIES {
         put_entry(entries, k, reset_entry());
         k += 1;
     }
@@ -88,7 +90,7 @@ pub fn shaped_row(entries: &[u8]) -> bool
 {
     let mut faults: u32 = 0;
     let mut k: usize = 0;
-    while k < DISPLAY_WIDTH {
+    while k < ENTRIES {
         faults += fault(word_at(entries, k));
         k += 1;
     }

@@ -89,16 +89,33 @@ fn draw(
     }
 }
 
-// A draw of the backdrop alone, with the effect black.
-fn draw_backdrop(reading: u32, line: u32, x2: i32, dispcnt: u8, bldy: u8) -> Drawn {
-    let vram = [0u8; VIDEO_RAM_SIZE];
-    let oam = [0u8; OAM_SIZE];
-    let mut registers = [0u8; REGISTERS_SIZE];
-    registers[0x00] = dispcnt;
-    registers[0x50] = 0xe0;
-    registers[0x54] = bldy;
+// A draw on a reset row.
+fn draw_alone(
+    reading: u32,
+    line: u32,
+    x2: i32,
+    vram: [u8; VIDEO_RAM_SIZE],
+    oam: [u8; OAM_SIZE],
+    registers: [u8; REGISTERS_SIZE],
+) -> Drawn {
     let mut entries = reset_row();
     draw(reading, line, x2, &vram, &oam, &registers, &mut entries)
+}
+
+// The low byte of DISPCNT, and the effect black on the backdrop.
+fn backdrop_registers(low: u8, bldy: u8) -> [u8; REGISTERS_SIZE] {
+    let mut registers = [0u8; REGISTERS_SIZE];
+    registers[0x00] = low;
+    registers[0x50] = 0xe0;
+    registers[0x54] = bldy;
+    registers
+}
+
+// A draw of the backdrop alone.
+fn draw_backdrop(reading: u32, line: u32, x2: i32, low: u8, bldy: u8) -> Drawn {
+    let vram = [0u8; VIDEO_RAM_SIZE];
+    let oam = [0u8; OAM_SIZE];
+    draw_alone(reading, line, x2, vram, oam, backdrop_registers(low, bldy))
 }
 
 fn print_pixel(pixel: u32) {
@@ -154,21 +171,29 @@ fn references() {
     print_step(b"reference 2^28 - 1 stepped by 1", 1);
 }
 
-// Sprite 0 shows tile 1, whose first dot is red, and the 127 others tile 0, whose first dot is blue; all stand at column 0
-// with priority 0. A tie that went to the later sprite would print 0x0000f8.
-fn tie() {
+// Tile 0 has a blue first dot, and tile 1 a red one.
+fn tie_tiles() -> [u8; VIDEO_RAM_SIZE] {
     let mut vram = [0u8; VIDEO_RAM_SIZE];
     vram[0x10000] = 0x02;
     vram[0x10020] = 0x01;
+    vram
+}
+
+// Sprite 0 shows tile 1 and the 127 others tile 0; all stand at column 0 with priority 0. A tie that went to the later
+// sprite would print 0x0000f8.
+fn tie() {
+    let vram = tie_tiles();
     let mut oam = [0u8; OAM_SIZE];
     oam[4] = 1;
     let mut registers = [0u8; REGISTERS_SIZE];
     registers[0x01] = 0x10;
-    let mut entries = reset_row();
-    print(
-        b"tie of sprites",
-        draw(R, 0, 0, &vram, &oam, &registers, &mut entries),
-    );
+    print(b"tie of sprites", draw_alone(R, 0, 0, vram, oam, registers));
+}
+
+// A draw of a bitmap alone, from x2 on.
+fn draw_bitmap(x2: i32, vram: [u8; VIDEO_RAM_SIZE]) -> Drawn {
+    let oam = [0u8; OAM_SIZE];
+    draw_alone(R, 0, x2, vram, oam, bitmap_registers(0x04))
 }
 
 // The words 0x8000 and 0x8001 in mode 3. If bit 15 were masked before the test, the first would print 0x000000.
@@ -177,36 +202,49 @@ fn transparent_word() {
     vram[1] = 0x80;
     vram[2] = 0x01;
     vram[3] = 0x80;
-    let oam = [0u8; OAM_SIZE];
-    let registers = bitmap_registers(0x04);
-    let mut entries = reset_row();
-    print(
-        b"words 0x8000 and 0x8001",
-        draw(R, 0, 0, &vram, &oam, &registers, &mut entries),
-    );
+    print(b"words 0x8000 and 0x8001", draw_bitmap(0, vram));
 }
 
-// A window sprite marks column 0, where the object window permits background 2, whose first two words are red; outside
-// permits nothing. The second draw has sprites off: without the first one's mark it would print 0x00f800 twice.
-fn window_marks() {
+// The bitmap's first two words are red, and the first dot of tile 512 is set.
+fn window_dots() -> [u8; VIDEO_RAM_SIZE] {
     let mut vram = [0u8; VIDEO_RAM_SIZE];
     vram[0x00000] = 0x1f;
     vram[0x00002] = 0x1f;
     vram[0x14000] = 0x01;
+    vram
+}
+
+// Sprite 0 is a window sprite at column 0 that shows tile 512.
+fn window_sprites() -> [u8; OAM_SIZE] {
     let mut oam = [0u8; OAM_SIZE];
     oam[1] = 0x08;
     oam[5] = 0x02;
-    let mut registers = bitmap_registers(0x94);
+    oam
+}
+
+// The high byte of DISPCNT; the object window permits background 2, and outside permits nothing.
+fn window_registers(high: u8) -> [u8; REGISTERS_SIZE] {
+    let mut registers = bitmap_registers(high);
     registers[0x4b] = 0x04;
+    registers
+}
+
+// A draw of the window sprite and the bitmap on the row.
+fn draw_window(high: u8, entries: &mut [u8]) -> Drawn {
+    let vram = window_dots();
+    let oam = window_sprites();
+    let registers = window_registers(high);
+    draw(R, 0, 0, &vram, &oam, &registers, entries)
+}
+
+// The window sprite marks column 0. The second draw has sprites off: without the first one's mark it would print 0x00f800
+// twice.
+fn window_marks() {
     let mut entries = reset_row();
-    print(
-        b"window marks, sprites on",
-        draw(R, 0, 0, &vram, &oam, &registers, &mut entries),
-    );
-    registers[0x01] = 0x84;
+    print(b"window marks, sprites on", draw_window(0x94, &mut entries));
     print(
         b"window marks, sprites off",
-        draw(R, 0, 0, &vram, &oam, &registers, &mut entries),
+        draw_window(0x84, &mut entries),
     );
 }
 
@@ -215,13 +253,7 @@ fn window_marks() {
 fn negative_point() {
     let mut vram = [0u8; VIDEO_RAM_SIZE];
     vram[0] = 0x1f;
-    let oam = [0u8; OAM_SIZE];
-    let registers = bitmap_registers(0x04);
-    let mut entries = reset_row();
-    print(
-        b"point -1/256",
-        draw(R, 0, -1, &vram, &oam, &registers, &mut entries),
-    );
+    print(b"point -1/256", draw_bitmap(-1, vram));
 }
 
 fn main() {

@@ -1,16 +1,13 @@
 -- The laws of the pass, for the proofs of this crate and of those above it, which reach them as Rattle.obj.proofs.NAME. No
 -- contract cites them. Assumes nothing.
 --
--- Turns, Colors, Texels and Pixels answer one sprite's code, and Skip and Steps the pass; Shapes is of well-shaped entries.
+-- Pixels answers one sprite's code, and Skip and Steps the pass; Shapes is of well-shaped entries.
 -- Before, Order and Windows are the order of pixels.
 -- A law's name is as in `sprites`; besides, -passed and -taken: of a pixel that loses, and of one that wins.
 pub mod Before
-pub mod Colors
 pub mod Order
 pub mod Pixels
 pub mod Shapes
 pub mod Skip
 pub mod Steps
-pub mod Texels
-pub mod Turns
 pub mod Windows

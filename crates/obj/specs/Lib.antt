@@ -1,5 +1,4 @@
 -- What the pass makes of a row of entries, and which pixel each holds. Assumes nothing.
-pub mod Turn
 pub mod Skip
 pub mod Put
 pub mod Order

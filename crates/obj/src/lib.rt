@@ -1,5 +1,5 @@
-// The pass over sprites (gpu/render/obj.rs): which of their pixels a row of entries shows. Rows of normal sprites, points of
-// affine ones and the search for the next sprite have files of their own.
+// The pass over sprites (gpu/render/obj.rs): which of their pixels a row of entries shows. The search
+// for the next sprite has a file of its own.
 ghost use mathlib.Core.Path.{_≡_};
 ghost use mathlib.Core.Bool.{true};
 ghost use Prim.Native.Nat.{_+_, _-_, _%_, _^_, _≤_, _<_, min};
@@ -14,25 +14,18 @@ ghost use Rattle.sprites.specs.Oam.{matrix};
 ghost use Rattle.sprites.specs.Attrs.{Decoded};
 ghost use Rattle.sprites.specs.Place.{onLine};
 ghost use Rattle.sprites.specs.Color.{normalColor, colorAt, affineColor};
-ghost use Rattle.obj.specs.Turn.{pointAt, Ranged};
 ghost use Rattle.sprites.specs.Sprite.{source, typedColor};
+ghost use Rattle.texels.specs.Turn.{pointAt, Ranged};
 ghost use Rattle.obj.specs.Put.{passedOver, shownBy, windowed, written, putPixel};
 ghost use Rattle.obj.specs.Put.{putColumn, putRow, spriteStep, rowAfter};
 
-mod affine;
 mod next;
-mod normal;
 
-use affine::POINT_BIAS;
-use affine::Turn;
-use affine::point_at;
-use affine::turn_line;
 use entries::Entry;
 use entries::entry_at;
 use entries::put_entry;
 use memory::DISPLAY_WIDTH;
 use next::next_obj;
-use normal::texel_row;
 use regs::ObjMapping;
 use regs::Reading;
 use regs::iodev::read_dispcnt;
@@ -46,6 +39,11 @@ use sprites::is_inside;
 use sprites::obj_tiles_start;
 use sprites::read_obj_attrs;
 use sprites::read_texel;
+use texels::POINT_BIAS;
+use texels::Turn;
+use texels::point_at;
+use texels::texel_row;
+use texels::turn_line;
 
 // The first column of the screen that a box covers, by its left edge plus 272.
 fn first_column(left: usize) -> usize

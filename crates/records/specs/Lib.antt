@@ -1,6 +1,3 @@
--- What the step and the draw over lent records give, for every input. Assumes nothing.
+-- What the step on records gives, for every input, and the bytes that a row of records stands for. Assumes nothing.
 pub mod Step
 pub mod Entries
-pub mod Draw
-pub mod Values
-pub mod Again

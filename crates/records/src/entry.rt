@@ -66,7 +66,7 @@ fn record_of(e: Entry) -> ObjBufferEntry
 }
 
 // The bytes of a row.
-pub(crate) fn encode_row(records: [ObjBufferEntry; 240]) -> [u8; 960]
+pub fn encode_row(records: [ObjBufferEntry; 240]) -> [u8; 960]
     ensures { λ r. ⌜ r ≡ rowBytes records ⌝ }
 {
     let mut bytes = [0; ENTRIES_SIZE];
@@ -90,7 +90,7 @@ fn blank_row() -> [ObjBufferEntry; 240] {
 }
 
 // The records of a row's bytes.
-pub(crate) fn decode_row(bytes: &[u8]) -> [ObjBufferEntry; 240]
+pub fn decode_row(bytes: &[u8]) -> [ObjBufferEntry; 240]
     requires { ⌜ length (now bytes) ≡ entriesSize ⌝ }
     ensures { λ r. ⌜ r ≡ recordsIn (now (bytes .entry)) ⌝ }
 {

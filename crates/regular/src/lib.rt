@@ -1,21 +1,23 @@
 // Regular backgrounds, of modes 0 and 1 (gpu/render/text.rs).
 ghost use mathlib.Core.Path.{_≡_};
-ghost use Prim.Native.Nat.{_*_, _/_, _%_, _≤_, _<_};
+ghost use Prim.Native.Nat.{_+_, _*_, _/_, _%_, _≤_, _<_};
 ghost use lib.ListN.{length};
 ghost use Rattle.rgb15.specs.Colour.{rgb};
 ghost use Rattle.rows.specs.Tab.{tab};
 ghost use Rattle.memory.specs.Sizes.{videoRamSize};
+ghost use Rattle.memory.specs.Tiles.{colours};
 ghost use Rattle.tiles.specs.Flip.{flipped};
 ghost use Rattle.regular.specs.Lent.{Lent};
-ghost use Rattle.regular.specs.Regular.{tileIndex, xFlip, yFlip, entryBank, mapEntry, entryColor, regularColor};
+ghost use Rattle.regular.specs.Regular.{tileIndex, xFlip, yFlip, entryBank, mapEntry, tileColor, entryColor, regularColor};
 use memory::DISPLAY_WIDTH;
 use memory::PixelFormat;
 use memory::read_16;
 use regs::BgControl;
 use regs::SCREEN_BLOCK_SIZE;
 use rgb15::Rgb15;
+use tiles::flip_row;
 use tiles::is_empty_row;
-use tiles::tile_row;
+use tiles::tile_color;
 
 // An entry of a regular background's map.
 pub struct TileMapEntry(pub u16);
@@ -54,6 +56,33 @@ fn flip_at(at: usize, flip: bool) -> usize
     if flip { 7 - at } else { at }
 }
 
+// The eight colours of a row of the tile at `tile_addr`, from right to left if it is flipped. Sprites have the like: one function
+// that both call would be inlined in neither, and a line would take a tenth more.
+fn tile_row(
+    vram: &[u8],
+    palette: &[u8],
+    tile_addr: usize,
+    y: usize,
+    format: PixelFormat,
+    bank: usize,
+    flip: bool,
+) -> [Rgb15; 8]
+    requires { ⌜ Lent (now vram) (now palette) × («tile_addr» + 63 < videoRamSize) × (y < 8) × (16 * bank + colours format ≤ 256) ⌝ }
+    ensures { λ r. ⌜ r ≡ tab (λ x. rgb (tileColor (now (vram .entry)) (now (palette .entry)) «tile_addr» (flipped flip x) y format bank)) 8 ⌝ }
+{
+    let row = [
+        tile_color(vram, palette, 0, tile_addr, 0, y, format, bank),
+        tile_color(vram, palette, 0, tile_addr, 1, y, format, bank),
+        tile_color(vram, palette, 0, tile_addr, 2, y, format, bank),
+        tile_color(vram, palette, 0, tile_addr, 3, y, format, bank),
+        tile_color(vram, palette, 0, tile_addr, 4, y, format, bank),
+        tile_color(vram, palette, 0, tile_addr, 5, y, format, bank),
+        tile_color(vram, palette, 0, tile_addr, 6, y, format, bank),
+        tile_color(vram, palette, 0, tile_addr, 7, y, format, bank),
+    ];
+    flip_row(row, flip)
+}
+
 // The eight colours that a map entry shows in row y of its tile. Empty rows are common, and are seen without looking up a pixel.
 fn entry_row(
     vram: &[u8],
@@ -75,7 +104,6 @@ fn entry_row(
     tile_row(
         vram,
         palette,
-        0,
         tile_addr,
         tile_py,
         format,

@@ -1,13 +1,13 @@
-// The three calls of a list, each compared with the oracle's answer.
+// The calls of a list, each compared with the oracle's answer.
+ghost use Prim.Native.Nat.{_<_};
 use crate::compare::Found;
 use crate::compare::compare;
 use crate::compare::compare_rows;
 use crate::list;
 use crate::list::lent;
-use crate::list::lent_from;
 use crate::list::lent_mut;
 use crate::list::read;
-use crate::list::read_given;
+use crate::list::read_first;
 use crate::list::signed;
 use crate::list::signed_half;
 use crate::list::size;
@@ -18,47 +18,39 @@ use ashlarkin::ashlarkin_step;
 
 // Palette, OAM and registers, if they follow; false where the list ends before.
 fn read_memory(head: &[u8; list::HEAD_SIZE], memory: &mut [u8; list::MEMORY_ROOM]) -> bool {
+    if word(head, list::FOLLOW) / list::MEMORY_FOLLOWS % 2 == 0 {
+        return true;
+    }
     let size = size(head, list::PALETTE) + size(head, list::OAM) + size(head, list::REGISTERS);
-    read_given(word(head, list::FOLLOW) % 2 == 1, memory, size)
+    read_first(memory, size)
 }
 
-// The entries before the call, if they follow.
-fn read_entries(head: &[u8; list::HEAD_SIZE], entries: &mut [u8; list::ROW_ROOM]) -> bool {
-    read_given(
-        word(head, list::FOLLOW) / 2 % 2 == 1,
-        entries,
-        size(head, list::ENTRIES),
-    )
+// Entries or output, as long as word k of the head says, if the bit says that they follow.
+fn read_row(
+    head: &[u8; list::HEAD_SIZE],
+    bit: u32,
+    k: usize,
+    row: &mut [u8; list::ROW_ROOM],
+) -> bool
+    requires { ⌜ 0 < bit ⌝ }
+    requires { ⌜ k < 17 ⌝ }
+{
+    if word(head, list::FOLLOW) / bit % 2 == 0 {
+        return true;
+    }
+    read_first(row, size(head, k))
 }
 
-// The entries that the oracle left, if they follow.
-fn read_entries_after(head: &[u8; list::HEAD_SIZE], entries: &mut [u8; list::ROW_ROOM]) -> bool {
-    read_given(
-        word(head, list::FOLLOW) / 4 % 2 == 1,
-        entries,
-        size(head, list::ENTRIES),
-    )
-}
-
-// The output that the oracle left, if it follows.
-fn read_output_after(head: &[u8; list::HEAD_SIZE], output: &mut [u8; list::ROW_ROOM]) -> bool {
-    read_given(
-        word(head, list::FOLLOW) / 8 % 2 == 1,
-        output,
-        size(head, list::OUTPUT),
-    )
-}
-
-// The draw of a record on what is lent.
+// The draw of a record, with as much lent as it says.
 fn draw(
     head: &[u8; list::HEAD_SIZE],
-    vram: &[u8],
-    palette: &[u8],
-    oam: &[u8],
-    registers: &[u8],
+    images: &[u8],
+    memory: &[u8],
     entries: &mut [u8],
     output: &mut [u8],
 ) -> u32 {
+    let oam = size(head, list::PALETTE);
+    let registers = oam + size(head, list::OAM);
     ashlarkin_draw(
         word(head, list::READING),
         word(head, list::LINE),
@@ -66,49 +58,49 @@ fn draw(
         signed(head, list::Y2),
         signed(head, list::X3),
         signed(head, list::Y3),
-        vram,
-        palette,
-        oam,
-        registers,
-        entries,
-        output,
-    )
-}
-
-// The draw of a record, with as much lent as it says.
-fn draw_lent(
-    head: &[u8; list::HEAD_SIZE],
-    images: &[u8],
-    memory: &[u8],
-    entries: &mut [u8],
-    output: &mut [u8],
-) -> u32 {
-    let palette_size = size(head, list::PALETTE);
-    let oam_size = size(head, list::OAM);
-    draw(
-        head,
-        lent_from(images, size(head, list::START), size(head, list::VRAM)),
-        lent(memory, palette_size),
-        lent_from(memory, palette_size, oam_size),
-        lent_from(memory, palette_size + oam_size, size(head, list::REGISTERS)),
+        lent(images, size(head, list::START), size(head, list::VRAM)),
+        lent(memory, 0, oam),
+        lent(memory, oam, size(head, list::OAM)),
+        lent(memory, registers, size(head, list::REGISTERS)),
         lent_mut(entries, size(head, list::ENTRIES)),
         lent_mut(output, size(head, list::OUTPUT)),
     )
 }
 
-pub(crate) fn replay_draw(
+// The reset of a record.
+fn reset(head: &[u8; list::HEAD_SIZE], entries: &mut [u8]) -> u32 {
+    ashlarkin_reset(lent_mut(entries, size(head, list::ENTRIES)))
+}
+
+// A draw or a reset.
+pub(crate) fn replay_rows(
     head: &[u8; list::HEAD_SIZE],
     images: &[u8; list::IMAGES_SIZE],
     memory: &mut [u8; list::MEMORY_ROOM],
     entries: &mut [u8; list::ROW_ROOM],
     output: &mut [u8; list::ROW_ROOM],
 ) -> Found {
-    let before = read_memory(head, memory) & read_entries(head, entries);
+    let before = read_memory(head, memory)
+        & read_row(head, list::ENTRIES_FOLLOW, list::ENTRIES, entries);
     let mut oracle_entries = *entries;
     let mut oracle_output = *output;
-    let after = read_entries_after(head, &mut oracle_entries)
-        & read_output_after(head, &mut oracle_output);
-    let number = draw_lent(head, images, memory, entries, output);
+    let after = read_row(
+        head,
+        list::ENTRIES_AFTER_FOLLOW,
+        list::ENTRIES,
+        &mut oracle_entries,
+    )
+        & read_row(
+            head,
+            list::OUTPUT_AFTER_FOLLOWS,
+            list::OUTPUT,
+            &mut oracle_output,
+        );
+    let number = if word(head, list::CALL) == list::DRAW {
+        draw(head, images, memory, entries, output)
+    } else {
+        reset(head, entries)
+    };
     compare_rows(
         before & after,
         number,
@@ -144,29 +136,5 @@ pub(crate) fn replay_step(head: &[u8; list::HEAD_SIZE]) -> Found {
         word(head, list::NUMBER),
         &oracle_references,
         b"",
-    )
-}
-
-// The reset of a record.
-fn reset(head: &[u8; list::HEAD_SIZE], entries: &mut [u8]) -> u32 {
-    ashlarkin_reset(lent_mut(entries, size(head, list::ENTRIES)))
-}
-
-pub(crate) fn replay_reset(
-    head: &[u8; list::HEAD_SIZE],
-    entries: &mut [u8; list::ROW_ROOM],
-    output: &[u8; list::ROW_ROOM],
-) -> Found {
-    let mut oracle_entries = *entries;
-    let whole = read_entries_after(head, &mut oracle_entries);
-    let number = reset(head, entries);
-    compare_rows(
-        whole,
-        number,
-        entries,
-        output,
-        word(head, list::NUMBER),
-        &oracle_entries,
-        output,
     )
 }

@@ -11,18 +11,6 @@ pub(crate) enum Found {
     Cut,
 }
 
-impl Found {
-    pub(crate) fn is_same(self) -> bool {
-        match self {
-            Found::Same => true,
-            Found::Number(_) => false,
-            Found::Entries(_) => false,
-            Found::Output(_) => false,
-            Found::Cut => false,
-        }
-    }
-}
-
 // The place of the first byte that differs.
 fn first_difference(a: &[u8], b: &[u8]) -> usize {
     let mut i = 0;

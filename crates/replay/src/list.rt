@@ -53,6 +53,15 @@ pub(crate) const ROW_ROOM: usize = 1920;
 
 pub(crate) const REFERENCES_ROOM: usize = 32;
 
+// The bits that say which buffers follow, by what they are worth.
+pub(crate) const MEMORY_FOLLOWS: u32 = 1;
+
+pub(crate) const ENTRIES_FOLLOW: u32 = 2;
+
+pub(crate) const ENTRIES_AFTER_FOLLOW: u32 = 4;
+
+pub(crate) const OUTPUT_AFTER_FOLLOWS: u32 = 8;
+
 // The words from 2^31 on stand for themselves less 2^32, and the halfwords from 2^15 on for themselves less 2^16.
 const SIGN: u32 = 0x8000_0000;
 
@@ -68,11 +77,8 @@ pub(crate) fn read_head(head: &mut [u8; HEAD_SIZE]) -> bool {
     read(head)
 }
 
-// Fills the first bytes of the buffer, if it follows; false where the list ends before or the buffer is too short.
-pub(crate) fn read_given(follows: bool, buffer: &mut [u8], size: usize) -> bool {
-    if !follows {
-        return true;
-    }
+// Fills the first bytes of the buffer; false where the list ends before or the buffer is too short.
+pub(crate) fn read_first(buffer: &mut [u8], size: usize) -> bool {
     if size > buffer.len() {
         return false;
     }
@@ -118,12 +124,14 @@ pub(crate) fn signed_half(head: &[u8; HEAD_SIZE], k: usize) -> i16
     }
 }
 
-// What is lent of a buffer; all of it where that is less.
-pub(crate) fn lent(buffer: &[u8], size: usize) -> &[u8] {
-    if size < buffer.len() {
-        &buffer[0..size]
+// What is lent of a buffer from a place on; all that is there where that is less.
+pub(crate) fn lent(buffer: &[u8], start: usize, size: usize) -> &[u8] {
+    if start >= buffer.len() {
+        &buffer[0..0]
+    } else if size < buffer.len() - start {
+        &buffer[start..start + size]
     } else {
-        buffer
+        &buffer[start..]
     }
 }
 
@@ -132,14 +140,5 @@ pub(crate) fn lent_mut(buffer: &mut [u8], size: usize) -> &mut [u8] {
         &mut buffer[0..size]
     } else {
         buffer
-    }
-}
-
-// What is lent of a buffer from a place on.
-pub(crate) fn lent_from(buffer: &[u8], start: usize, size: usize) -> &[u8] {
-    if start < buffer.len() {
-        lent(&buffer[start..], size)
-    } else {
-        lent(buffer, 0)
     }
 }

@@ -18,8 +18,7 @@ mod compare;
 mod list;
 mod tally;
 
-use calls::replay_draw;
-use calls::replay_reset;
+use calls::replay_rows;
 use calls::replay_step;
 use compare::Found;
 use list::read;
@@ -37,33 +36,46 @@ fn replay(
     entries: &mut [u8; list::ROW_ROOM],
     output: &mut [u8; list::ROW_ROOM],
 ) -> Found {
-    let call = word(head, list::CALL);
-    if call == list::DRAW {
-        replay_draw(head, images, memory, entries, output)
-    } else if call == list::STEP {
+    if word(head, list::CALL) == list::STEP {
         replay_step(head)
     } else {
-        replay_reset(head, entries, output)
+        replay_rows(head, images, memory, entries, output)
     }
 }
 
-fn print_place(k: u32, what: &[u8], place: u64) {
-    io::write_all(1, b"call ");
-    io::print_decimal(1, k as u64);
-    io::write_all(1, what);
-    io::print_decimal(1, place);
-    io::write_all(1, b"\n");
+// Prints the text, and for each # in it the next of the numbers.
+pub(crate) fn print_text(text: &[u8], numbers: &[u64]) {
+    let mut i = 0;
+    let mut k = 0;
+    while i < text.len() {
+        if text[i] != b'#' {
+            io::write_all(1, &text[i..i + 1]);
+        } else if k < numbers.len() {
+            io::print_decimal(1, numbers[k]);
+            k += 1;
+        }
+        i += 1;
+    }
 }
 
-// Says where call k differs.
-fn print_difference(k: u32, found: Found) {
+fn print_place(text: &[u8], k: u32, place: u64) {
+    print_text(text, &[k as u64, place]);
+}
+
+// Says where call k differs, if it does. Whether it doesn't.
+fn is_same(k: u32, found: Found) -> bool {
     match found {
-        Found::Same => {}
-        Found::Number(number) => print_place(k, b": not the number ", number as u64),
-        Found::Entries(place) => print_place(k, b": entries differ from byte ", place as u64),
-        Found::Output(place) => print_place(k, b": output differs from byte ", place as u64),
-        Found::Cut => print_place(k, b": the list ends in record ", k as u64),
+        Found::Same => return true,
+        Found::Number(number) => print_place(b"call #: not the number #\n", k, number as u64),
+        Found::Entries(place) => {
+            print_place(b"call #: entries differ from byte #\n", k, place as u64)
+        }
+        Found::Output(place) => {
+            print_place(b"call #: output differs from byte #\n", k, place as u64)
+        }
+        Found::Cut => print_place(b"call #: the list ends in record #\n", k, k as u64),
     }
+    false
 }
 
 // The records replayed and counted, up to the first that differs. Whether none does.
@@ -78,8 +90,7 @@ fn replay_all(images: &[u8; list::IMAGES_SIZE], counts: &mut [u64; COUNTS]) -> b
             return true;
         }
         let found = replay(&head, images, &mut memory, &mut entries, &mut output);
-        if !found.is_same() {
-            print_difference(k, found);
+        if !is_same(k, found) {
             return false;
         }
         tally::count_record(counts, &head, &memory);

@@ -1,7 +1,7 @@
 // What the list has, counted: by group, by number, and of the lines drawn the modes, windows and effects.
-ghost use Prim.Native.Nat.{_≤_};
 use crate::list;
 use crate::list::word;
+use crate::print_text;
 
 // Where each count starts.
 const NUMBERS: usize = 9;
@@ -61,59 +61,21 @@ pub(crate) fn count_record(
     }
 }
 
-fn print_count(name: &[u8], n: u64) {
-    io::write_all(1, name);
-    io::write_all(1, b": ");
-    io::print_decimal(1, n);
-    io::write_all(1, b"\n");
-}
-
-// The counts from one place up to another.
-fn print_counts(name: &[u8], counts: &[u64; COUNTS], from: usize, to: usize)
-    requires { ⌜ to ≤ 39 ⌝ }
-{
-    io::write_all(1, name);
-    let mut k = from;
-    while k < to {
-        io::write_all(1, b" ");
-        io::print_decimal(1, counts[k]);
-        k += 1;
-    }
-    io::write_all(1, b"\n");
-}
-
-fn print_accepted(counts: &[u64; COUNTS]) {
-    print_count(b"reading R", counts[0]);
-    print_count(b"reading H", counts[1]);
-    print_count(b"faulty input", counts[2]);
-    print_count(b"chains of draws", counts[3]);
-    print_count(b"one background alone", counts[4]);
-}
-
-fn print_others(counts: &[u64; COUNTS]) {
-    print_count(b"lines of the sample", counts[5]);
-    print_count(b"buffers of another length", counts[6]);
-    print_count(b"steps", counts[7]);
-    print_count(b"resets", counts[8]);
-}
-
 pub(crate) fn print(counts: &[u64; COUNTS]) {
-    print_accepted(counts);
-    print_others(counts);
-    print_counts(b"numbers 0 to 7:", counts, NUMBERS, MODES);
-    print_counts(
-        b"lines of modes 0 to 7, of forced blank:",
-        counts,
-        MODES,
-        WINDOWS,
-    );
-    print_counts(
-        b"lines by the window switches 0 to 7:",
-        counts,
-        WINDOWS,
-        EFFECTS,
-    );
-    print_counts(b"lines by the effects 0 to 3:", counts, EFFECTS, CALLS);
-    io::print_decimal(1, counts[CALLS]);
-    io::write_all(1, b" calls, 0 differences\n");
+    let text = *b"reading R: #
+reading H: #
+faulty input: #
+chains of draws: #
+one background alone: #
+lines of the sample: #
+buffers of another length: #
+steps: #
+resets: #
+numbers 0 to 7: # # # # # # # #
+lines of modes 0 to 7, of forced blank: # # # # # # # # #
+lines by the window switches 0 to 7: # # # # # # # #
+lines by the effects 0 to 3: # # # #
+# calls, 0 differences
+";
+    print_text(&text, counts);
 }

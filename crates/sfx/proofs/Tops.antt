@@ -2,7 +2,7 @@
 -- file. Assumes nothing.
 use Prim.Native.Nat.{ℕ, _/_, _%_, _<_}
 use mathlib.Core.Path.{_≡_, refl, sym, ap, _∙_}
-use mathlib.Core.Bool.{Bool, true, false, not, _&&_, and-false, and-eq-true-iff}
+use mathlib.Core.Bool.{true, false, not, _&&_, and-eq-true-iff}
 use mathlib.Core.List.{List}
 use lib.Dec.{eqb}
 use lib.ListN.{getD}
@@ -16,21 +16,13 @@ use Rattle.rows.proofs.Below.{allBelow-at, allBelow-tally}
 use Rattle.rows.proofs.Tab.{tab-cong}
 use Rattle.layers.specs.Places.{lineColor}
 use Rattle.layers.specs.Words.{Unmarked}
-use Rattle.layers.specs.declared.layer.LayerPair.{LayerPair}
 use Rattle.layers.specs.declared.layer.LineLayers.{LineLayers}
 use Rattle.layers.proofs.Marks.{top-plain}
-use Rattle.sfx.specs.Words.{isBlended, fadedColor, pairColor, columnColor, topColor, atColumn}
-use Rattle.sfx.specs.declared.Weights.{Weights}
+use Rattle.effects.specs.declared.Weights.{Weights}
+use Rattle.effects.proofs.Colors.{pairColor-top}
+use Rattle.sfx.specs.Words.{columnColor, topColor, atColumn}
 
 -- ---- a column
-
--- Without the mark on top and without the control's blend, the bottom doesn't count.
-pairColor-top : (w : Weights) (mode : ℕ) (permitted : Bool) (p : LayerPair)
-    → eqb mode 1 ≡ false → bit 2 (p .«top_tag») ≡ false
-    → pairColor w mode permitted p ≡ fadedColor w mode permitted (p .top) (p .«top_tag»)
-unfolding pairColor fadedColor isBlended
-pairColor-top w mode permitted p other plain =
-    rw (plain, other, and-false (permitted && bit 0 (p .«top_tag»)), and-false (bit 1 (p .«bottom_tag»)))
 
 topColor-same : {line : LineLayers} → Unmarked line → (w : Weights) (region tag object a b c d : ℕ)
     → eqb (line .mode) 1 ≡ false → bit 2 tag ≡ false

@@ -1,4 +1,3 @@
--- How effects make a pixel of layers. Assumes nothing.
-pub mod Effects
+-- How layers and effects make a pixel. Assumes nothing.
 pub mod Pixel
 pub mod Words

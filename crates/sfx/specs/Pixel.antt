@@ -9,7 +9,7 @@ use Rattle.entries.specs.declared.Entry.{Entry}
 use Rattle.windows.specs.Region.{region, permitted}
 use Rattle.windows.specs.declared.WindowType.{WindowType}
 use Rattle.layers.specs.Layers.{Layer, Pair, layers}
-use Rattle.sfx.specs.Effects.{Effect, effect, effectColor}
+use Rattle.effects.specs.Effects.{Effect, effect, effectColor}
 
 -- The case of a column: its region, its top and bottom layer, and the effect.
 pub record Case : Type 0 where

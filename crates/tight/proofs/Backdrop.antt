@@ -14,7 +14,7 @@ use Rattle.regs.specs.declared.reading.Reading.{Reading}
 use Rattle.entries.specs.declared.Entry.{Entry}
 use Rattle.windows.specs.Region.{region, permitted}
 use Rattle.layers.specs.Layers.{backgrounds, keep, stands, ordered, firstTwo, objectCounts, layers}
-use Rattle.sfx.specs.Effects.{effect, effectColor}
+use Rattle.effects.specs.Effects.{effect, effectColor}
 use Rattle.sfx.specs.Pixel.{caseIn, caseOf, caseColor, pixel}
 use Rattle.gpu.specs.Line.{pixelAt, lineAfter}
 use Rattle.tight.specs.Inputs.{zeros, firstLine, dark, lit}

@@ -1,4 +1,4 @@
-// Rows of a tile, for backgrounds and sprites alike (gpu/mod.rs, its reads).
+// A tile's pixels and rows, for backgrounds and sprites alike (gpu/mod.rs, its reads).
 ghost use mathlib.Core.Path.{_≡_};
 ghost use Prim.Native.Nat.{_+_, _*_, _≤_, _<_};
 ghost use lib.Dec.{eqb};
@@ -38,7 +38,7 @@ pub fn tile_color(
 }
 
 // A row, from right to left if it is flipped.
-fn flip_row(row: [Rgb15; 8], flip: bool) -> [Rgb15; 8]
+pub fn flip_row(row: [Rgb15; 8], flip: bool) -> [Rgb15; 8]
     requires { ⌜ length row ≡ 8 ⌝ }
     ensures { λ r. ⌜ r ≡ tab (λ x. getD row (flipped flip x) (rgb 0)) 8 ⌝ }
 {
@@ -56,35 +56,6 @@ fn flip_row(row: [Rgb15; 8], flip: bool) -> [Rgb15; 8]
     } else {
         row
     }
-}
-
-// The eight colours of a row of the tile at `tile_addr`, from right to left if it is flipped.
-pub fn tile_row(
-    vram: &[u8],
-    palette: &[u8],
-    offset: usize,
-    tile_addr: usize,
-    y: usize,
-    format: PixelFormat,
-    bank: usize,
-    flip: bool,
-) -> [Rgb15; 8]
-    requires { ⌜ (length (now vram) ≡ videoRamSize) × (length (now palette) ≡ paletteRamSize) × (offset ≤ 0x200)
-        × («tile_addr» + 63 < videoRamSize) × (y < 8) × (16 * bank + colours format ≤ 256) ⌝ }
-    ensures { λ r. ⌜ r ≡ tab (λ x. rgb (paletteColor (now (palette .entry)) offset
-        (tilePixel (now (vram .entry)) «tile_addr» (flipped flip x) y format) bank)) 8 ⌝ }
-{
-    let row = [
-        tile_color(vram, palette, offset, tile_addr, 0, y, format, bank),
-        tile_color(vram, palette, offset, tile_addr, 1, y, format, bank),
-        tile_color(vram, palette, offset, tile_addr, 2, y, format, bank),
-        tile_color(vram, palette, offset, tile_addr, 3, y, format, bank),
-        tile_color(vram, palette, offset, tile_addr, 4, y, format, bank),
-        tile_color(vram, palette, offset, tile_addr, 5, y, format, bank),
-        tile_color(vram, palette, offset, tile_addr, 6, y, format, bank),
-        tile_color(vram, palette, offset, tile_addr, 7, y, format, bank),
-    ];
-    flip_row(row, flip)
 }
 
 // Two halfwords as a word, the low one first.

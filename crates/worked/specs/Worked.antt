@@ -16,7 +16,7 @@ use Rattle.window.specs.Windows.{farEdge, inColumns}
 use Rattle.regular.specs.Regular.{regularX, regularY, mapBlock, mapOffset}
 use Rattle.background.specs.Bitmap.{bitmapPixel}
 use Rattle.sprites.specs.Place.{xOf, yOf}
-use Rattle.sfx.specs.Effects.{alpha, fade}
+use Rattle.effects.specs.Effects.{alpha, fade}
 
 -- Registers of zeros but for EVA, which is 31.
 abbrev eva31 : List ℕ

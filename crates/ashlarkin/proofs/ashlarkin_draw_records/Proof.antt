@@ -61,32 +61,32 @@ use borrow.Author.Tests.{eqb-false}
 use Rattle.judge.specs.Judge.{Call, callOf}
 use Rattle.gpu.specs.Draw as bytes
 use Rattle.records.specs.Entries.{rowBytes}
-use Rattle.records.specs.Draw.{DrawsRecords}
-use Rattle.records.specs.Values.{rowRefusal, drawnRow}
 use Rattle.records.specs.declared.entry.ObjBufferEntry.{ObjBufferEntry}
-use Rattle.records.specs.declared.draw.Drawn.{Drawn}
-use Rattle.records.proofs.Draws.{row-whole, draws-refused, draws-kept, draws-written}
 use Rattle.records.proofs.Walks.{only-if}
 use Rattle.records.proofs.entry.ObjBufferEntry as T
 use Rattle.records.proofs.entry.ObjBufferEntry.Laws as T′
-use Rattle.records.proofs.draw.Drawn as P
-use Rattle.records.proofs.draw.Drawn.Laws as P′
-use Rattle.records.proofs.judge_row as judge-row
-use Rattle.records.proofs.judge_row.Symbol as judge-def
-use Rattle.records.proofs.judge_row.Symbol.{name as #judge-row}
-use Rattle.records.proofs.judge_row.Met as judge-thm
 use Rattle.records.proofs.load_row as load-row
 use Rattle.records.proofs.load_row.Symbol as load-def
 use Rattle.records.proofs.load_row.Symbol.{name as #load-row}
 use Rattle.records.proofs.load_row.Met as load-thm
-use Rattle.records.proofs.draw_row as draw-row
-use Rattle.records.proofs.draw_row.Symbol as draw-def
-use Rattle.records.proofs.draw_row.Symbol.{name as #draw-row}
-use Rattle.records.proofs.draw_row.Met as draw-thm
 use Rattle.records.proofs.store_row as store-row
 use Rattle.records.proofs.store_row.Symbol as store-def
 use Rattle.records.proofs.store_row.Symbol.{name as #store-row}
 use Rattle.records.proofs.store_row.Met as store-thm
+use Rattle.drawn.specs.Draw.{DrawsRecords}
+use Rattle.drawn.specs.Values.{rowRefusal, drawnRow}
+use Rattle.drawn.specs.declared.Drawn.{Drawn}
+use Rattle.drawn.proofs.Draws.{row-whole, draws-refused, draws-kept, draws-written}
+use Rattle.drawn.proofs.Drawn as P
+use Rattle.drawn.proofs.Drawn.Laws as P′
+use Rattle.drawn.proofs.judge_row as judge-row
+use Rattle.drawn.proofs.judge_row.Symbol as judge-def
+use Rattle.drawn.proofs.judge_row.Symbol.{name as #judge-row}
+use Rattle.drawn.proofs.judge_row.Met as judge-thm
+use Rattle.drawn.proofs.draw_row as draw-row
+use Rattle.drawn.proofs.draw_row.Symbol as draw-def
+use Rattle.drawn.proofs.draw_row.Symbol.{name as #draw-row}
+use Rattle.drawn.proofs.draw_row.Met as draw-thm
 use Rattle.ashlarkin.proofs.ashlarkin_draw_records.Key.{name as #self}
 use Rattle.ashlarkin.proofs.ashlarkin_draw_records as self
 use Rattle.ashlarkin.proofs.ashlarkin_draw_records.Statement as stated
@@ -862,10 +862,10 @@ ashlarkin-draw-records-spec 𝓤 H 𝓜 𝓖 𝓡 =
     (tables 𝓤 H 𝓜 𝓡 code.env .C) (tables 𝓤 H 𝓜 𝓡 code.env .Λ) #self code.function (code.unfolded 𝓤 H 𝓜 𝓡)
     (meets 𝓤 H (𝓖 .A) (givenOf 𝓤 H 𝓜 𝓖) (𝓜 .mem) (𝓡 .run) (tablesOf 𝓤 H 𝓜 (tables 𝓤 H 𝓜 𝓡 code.env))
     (cited 𝓤 H (Judge 𝓤 H (𝓖 .A) (𝓜 .mem) (𝓡 .run)) 𝓜 𝓡 code.env #judge-row judge-def.routine
-    code.calls-records·judge-row (judge-thm.met 𝓤 H 𝓜 𝓖 𝓡))
+    code.calls-drawn·judge-row (judge-thm.met 𝓤 H 𝓜 𝓖 𝓡))
     (cited 𝓤 H (Load 𝓤 H (𝓖 .A) (𝓜 .mem) (𝓡 .run)) 𝓜 𝓡 code.env #load-row load-def.routine
     code.calls-records·load-row (load-thm.met 𝓤 H 𝓜 𝓖 𝓡))
     (cited 𝓤 H (Draw 𝓤 H (𝓖 .A) (𝓜 .mem) (𝓡 .run)) 𝓜 𝓡 code.env #draw-row draw-def.routine
-    code.calls-records·draw-row (draw-thm.met 𝓤 H 𝓜 𝓖 𝓡))
+    code.calls-drawn·draw-row (draw-thm.met 𝓤 H 𝓜 𝓖 𝓡))
     (cited 𝓤 H (Store 𝓤 H (𝓖 .A) (𝓜 .mem) (𝓡 .run)) 𝓜 𝓡 code.env #store-row store-def.routine
     code.calls-records·store-row (store-thm.met 𝓤 H 𝓜 𝓖 𝓡)))

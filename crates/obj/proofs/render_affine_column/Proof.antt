@@ -4,8 +4,8 @@
 use Prim.Native.Nat.{_+_, _^_, _≤_, _<_}
 use native.Mathlib.Omega.{arith}
 use borrow.Author.Needs.{needs}
-use Rattle.obj.specs.Turn.{pointAt}
-use Rattle.obj.proofs.Colors.{colorAt-bounds, colorAt-inside, colorAt-outside}
+use Rattle.texels.specs.Turn.{pointAt}
+use Rattle.sprites.proofs.Points.{colorAt-bounds, colorAt-inside, colorAt-outside}
 use Rattle.obj.proofs.Pixels.{putColumn-is, putColumn-transparent, putColumn-passed}
 use Rattle.obj.proofs.render_affine_column.Statement.{statement}
 use Rattle.obj.proofs.render_affine_column.Tie as tie

@@ -5,9 +5,9 @@ use lib.IntN.{subℕ}
 use native.Mathlib.Omega.{arith}
 use borrow.Author.Needs.{needs}
 use Rattle.sprites.specs.Color.{colorAt, affineColor}
-use Rattle.obj.specs.Turn.{pointAt}
 use Rattle.sprites.specs.Oam.{matrix}
-use Rattle.obj.proofs.Colors.{affineColor-inside, affineColor-outside}
+use Rattle.texels.specs.Turn.{pointAt}
+use Rattle.texels.proofs.Colors.{affineColor-inside, affineColor-outside}
 use Rattle.obj.proofs.Pixels.{PutPart, putPart-from, putPart-inside, putPart-to}
 use Rattle.obj.proofs.render_affine_obj.Statement.{statement}
 use Rattle.obj.proofs.render_affine_obj.Tie as tie

@@ -5,10 +5,10 @@ use native.Mathlib.Omega.{arith}
 use lib.ListN.{getD}
 use borrow.Author.Needs.{needs}
 use Rattle.rgb15.specs.Colour.{rgb}
-use Rattle.obj.proofs.Colors.{normalColor-outside}
-use Rattle.obj.proofs.Pixels.{putRow-none, putRow-part}
 use Rattle.sprites.proofs.Places.{boxed-normal, between-none}
-use Rattle.obj.proofs.Texels.{normalColor-row}
+use Rattle.texels.proofs.Colors.{normalColor-outside}
+use Rattle.texels.proofs.Texels.{normalColor-row}
+use Rattle.obj.proofs.Pixels.{putRow-none, putRow-part}
 use Rattle.obj.proofs.render_normal_obj.Statement.{statement}
 use Rattle.obj.proofs.render_normal_obj.Tie as tie
 
@@ -39,12 +39,13 @@ returns-2 c =
     let ended = flipped .before .before .before in
     let started = ended .before .before in
     let left = started .before .left in
-    let at = started .before .before .before .before .before .args in
+    let begun = started .before .before .before .before .before in
+    let at = begun .args in
     putRow-part (at .attrs) _ (λ k. getD (colored .texel-row .result) (k + 272 - left .result) (rgb 0) .0)
     (started .first-column .result) (ended .end-column .result) (at .entries .now) (put .put-row .ensures)
     (λ k k< inside.
     normalColor-row (at .reading) (at .mapping) (at .vram .now) (at .palette .now) (at .attrs) (at .line)
-    (left .result) (left .ensures .0) (row .result) k (colored .texel-row .result)
+    (left .result) (left .ensures .0) (begun .pre .3 .width≤) (row .result) k (colored .texel-row .result)
     (row .ensures .0) (flipped .flip .ensures .0) (colored .texel-row .ensures)
     (started .first-column .ensures) (ended .end-column .ensures) inside)
     (normalColor-outside (at .reading) (at .mapping) (at .vram .now) (at .palette .now) (at .attrs) (at .line)

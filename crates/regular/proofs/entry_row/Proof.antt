@@ -43,9 +43,7 @@ tile-row-requires c κs =
     let size = flip .before .before in
     let start = size .before .before .before .before in
     let index : size .before .tile-index .result ≤ 1023 = omega arith in (
-      start .pre .0 .0,
-      start .pre .0 .1,
-      omega arith,
+      start .pre .0,
       omega (arith, tiles-bound (start .args .format) index (size .tile-size .ensures)),
       flip .flip-at .ensures .1,
       c .before .palette-bank2 .ensures .1,

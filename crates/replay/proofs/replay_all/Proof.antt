@@ -24,7 +24,6 @@ replay-all-spec =
     (λ c. tt)
     (λ c κs. tt)
     (λ c κs. tt)
-    (λ c κs. tt)
     (λ c. tt)
     (λ c κs. tt)
     (λ c. omega arith)

@@ -1,0 +1,103 @@
+// The points of affine sprites (render/obj.rs: `get_affine_matrix`, and the sums of `render_affine_obj`). Every number is
+// larger here by a bias, so that none is below 0.
+ghost use mathlib.Core.Path.{_≡_};
+ghost use mathlib.Core.Bool.{true};
+ghost use Prim.Native.Nat.{_/_, _^_, _≤_, _<_};
+ghost use lib.IntN.{pos, _-ℤ_};
+ghost use lib.ListN.{length};
+ghost use Rattle.memory.specs.Sizes.{oamSize};
+ghost use Rattle.sprites.specs.Oam.{matrix};
+ghost use Rattle.sprites.specs.Attrs.{Decoded};
+ghost use Rattle.sprites.specs.Place.{boxHeight, below, onLine};
+ghost use Rattle.texels.specs.Turn.{MatrixOf, StartOf, TurnOf, pointAt};
+use memory::read_16;
+use regs::Reading;
+use signed::lift_half;
+use sprites::ObjAttrs;
+
+const AFFINE_FILL: usize = 2 * 3;
+
+// What a matrix's numbers are larger by.
+const HALF_BIAS: usize = 0x8000;
+
+// What a point's coordinates are larger by, and what they are larger by 256 to a pixel.
+pub const POINT_BIAS: usize = 0x1_0000;
+
+const START_BIAS: usize = 0x100_0000;
+
+// A matrix.
+struct AffineMatrix {
+    pub pa: usize,
+    pub pb: usize,
+    pub pc: usize,
+    pub pd: usize,
+}
+
+fn get_affine_matrix(oam: &[u8], affine_index: usize) -> AffineMatrix
+    requires { ⌜ (length (now oam) ≡ oamSize) × («affine_index» ≤ 31) ⌝ }
+    ensures { λ m. ⌜ MatrixOf (matrix (now (oam .entry)) «affine_index») m ⌝ }
+{
+    let offset = AFFINE_FILL + 32 * affine_index;
+    AffineMatrix {
+        pa: lift_half(read_16(oam, offset)) as usize,
+        pb: lift_half(read_16(oam, offset + 8)) as usize,
+        pc: lift_half(read_16(oam, offset + 16)) as usize,
+        pd: lift_half(read_16(oam, offset + 24)) as usize,
+    }
+}
+
+// How the columns of a box turn on a line: where column 0 lies in the sprite, 256 to a pixel, and what a column adds.
+pub struct Turn {
+    pub x: usize,
+    pub y: usize,
+    pub pa: usize,
+    pub pc: usize,
+}
+
+// One coordinate of where column 0 lies: p and q are the matrix's numbers, half_width and half_height the box's middle,
+// and row the line's place in the box.
+fn turn_start(p: usize, q: usize, half_width: usize, half_height: usize, row: usize) -> usize
+    requires { ⌜ (p < 2 ^ 16)
+        × (q < 2 ^ 16)
+        × («half_width» ≤ 64)
+        × («half_height» ≤ 64)
+        × (row ≤ 127) ⌝ }
+    ensures { λ r. ⌜ StartOf p q «half_width» «half_height» row r ⌝ }
+{
+    let added = HALF_BIAS * half_width + q * row + HALF_BIAS * half_height + START_BIAS;
+    let taken = p * half_width + HALF_BIAS * row + q * half_height;
+    added - taken
+}
+
+pub fn turn_line(oam: &[u8], attrs: ObjAttrs, reading: Reading, line: usize) -> Turn
+    requires { ⌜ (length (now oam) ≡ oamSize)
+        × Decoded attrs
+        × (line < 160)
+        × (onLine reading attrs line ≡ true) ⌝ }
+    ensures { λ t.
+        ⌜ TurnOf (matrix (now (oam .entry)) (attrs .«affine_index»)) attrs
+        (below reading attrs line -ℤ pos (boxHeight attrs / 2)) t ⌝ }
+{
+    let matrix = get_affine_matrix(oam, attrs.affine_index);
+    let half_width = attrs.box_width() / 2;
+    let half_height = attrs.box_height() / 2;
+    let row = attrs.row(reading, line);
+    Turn {
+        x: turn_start(matrix.pa, matrix.pb, half_width, half_height, row),
+        y: turn_start(matrix.pc, matrix.pd, half_width, half_height, row),
+        pa: matrix.pa,
+        pc: matrix.pc,
+    }
+}
+
+// A coordinate of column i of a box.
+pub fn point_at(start: usize, p: usize, i: usize, side: usize) -> usize
+    requires { ⌜ (2 ^ 22 ≤ start)
+        × (start ≤ 2 ^ 26)
+        × (p < 2 ^ 16)
+        × (i ≤ 127)
+        × (side ≤ 64) ⌝ }
+    ensures { λ r. ⌜ r ≡ pointAt start p i side ⌝ }
+{
+    (start + p * i - HALF_BIAS * i) / 256 + side / 2
+}
