@@ -7,7 +7,7 @@ use crate::list;
 use crate::list::lent;
 use crate::list::lent_mut;
 use crate::list::read;
-use crate::list::read_first;
+use crate::list::read_given;
 use crate::list::signed;
 use crate::list::signed_half;
 use crate::list::size;
@@ -18,11 +18,12 @@ use ashlarkin::ashlarkin_step;
 
 // Palette, OAM and registers, if they follow; false where the list ends before.
 fn read_memory(head: &[u8; list::HEAD_SIZE], memory: &mut [u8; list::MEMORY_ROOM]) -> bool {
-    if word(head, list::FOLLOW) / list::MEMORY_FOLLOWS % 2 == 0 {
-        return true;
-    }
     let size = size(head, list::PALETTE) + size(head, list::OAM) + size(head, list::REGISTERS);
-    read_first(memory, size)
+    read_given(
+        word(head, list::FOLLOW) / list::MEMORY_FOLLOWS % 2 == 1,
+        memory,
+        size,
+    )
 }
 
 // Entries or output, as long as word k of the head says, if the bit says that they follow.
@@ -35,10 +36,17 @@ fn read_row(
     requires { ⌜ 0 < bit ⌝ }
     requires { ⌜ k < 17 ⌝ }
 {
-    if word(head, list::FOLLOW) / bit % 2 == 0 {
-        return true;
-    }
-    read_first(row, size(head, k))
+    read_given(word(head, list::FOLLOW) / bit % 2 == 1, row, size(head, k))
+}
+
+// The entries and the output that the oracle left, if they follow.
+fn read_after(
+    head: &[u8; list::HEAD_SIZE],
+    entries: &mut [u8; list::ROW_ROOM],
+    output: &mut [u8; list::ROW_ROOM],
+) -> bool {
+    read_row(head, list::ENTRIES_AFTER_FOLLOW, list::ENTRIES, entries)
+        & read_row(head, list::OUTPUT_AFTER_FOLLOWS, list::OUTPUT, output)
 }
 
 // The draw of a record, with as much lent as it says.
@@ -49,8 +57,8 @@ fn draw(
     entries: &mut [u8],
     output: &mut [u8],
 ) -> u32 {
-    let oam = size(head, list::PALETTE);
-    let registers = oam + size(head, list::OAM);
+    let palette_size = size(head, list::PALETTE);
+    let oam_size = size(head, list::OAM);
     ashlarkin_draw(
         word(head, list::READING),
         word(head, list::LINE),
@@ -59,20 +67,29 @@ fn draw(
         signed(head, list::X3),
         signed(head, list::Y3),
         lent(images, size(head, list::START), size(head, list::VRAM)),
-        lent(memory, 0, oam),
-        lent(memory, oam, size(head, list::OAM)),
-        lent(memory, registers, size(head, list::REGISTERS)),
+        lent(memory, 0, palette_size),
+        lent(memory, palette_size, oam_size),
+        lent(memory, palette_size + oam_size, size(head, list::REGISTERS)),
         lent_mut(entries, size(head, list::ENTRIES)),
         lent_mut(output, size(head, list::OUTPUT)),
     )
 }
 
-// The reset of a record.
-fn reset(head: &[u8; list::HEAD_SIZE], entries: &mut [u8]) -> u32 {
-    ashlarkin_reset(lent_mut(entries, size(head, list::ENTRIES)))
+// The draw or the reset of a record.
+fn call(
+    head: &[u8; list::HEAD_SIZE],
+    images: &[u8],
+    memory: &[u8],
+    entries: &mut [u8],
+    output: &mut [u8],
+) -> u32 {
+    if word(head, list::CALL) == list::DRAW {
+        draw(head, images, memory, entries, output)
+    } else {
+        ashlarkin_reset(lent_mut(entries, size(head, list::ENTRIES)))
+    }
 }
 
-// A draw or a reset.
 pub(crate) fn replay_rows(
     head: &[u8; list::HEAD_SIZE],
     images: &[u8; list::IMAGES_SIZE],
@@ -84,23 +101,8 @@ pub(crate) fn replay_rows(
         & read_row(head, list::ENTRIES_FOLLOW, list::ENTRIES, entries);
     let mut oracle_entries = *entries;
     let mut oracle_output = *output;
-    let after = read_row(
-        head,
-        list::ENTRIES_AFTER_FOLLOW,
-        list::ENTRIES,
-        &mut oracle_entries,
-    )
-        & read_row(
-            head,
-            list::OUTPUT_AFTER_FOLLOWS,
-            list::OUTPUT,
-            &mut oracle_output,
-        );
-    let number = if word(head, list::CALL) == list::DRAW {
-        draw(head, images, memory, entries, output)
-    } else {
-        reset(head, entries)
-    };
+    let after = read_after(head, &mut oracle_entries, &mut oracle_output);
+    let number = call(head, images, memory, entries, output);
     compare_rows(
         before & after,
         number,

@@ -77,8 +77,11 @@ pub(crate) fn read_head(head: &mut [u8; HEAD_SIZE]) -> bool {
     read(head)
 }
 
-// Fills the first bytes of the buffer; false where the list ends before or the buffer is too short.
-pub(crate) fn read_first(buffer: &mut [u8], size: usize) -> bool {
+// Fills the first bytes of the buffer, if it follows; false where the list ends before or the buffer is too short.
+pub(crate) fn read_given(follows: bool, buffer: &mut [u8], size: usize) -> bool {
+    if !follows {
+        return true;
+    }
     if size > buffer.len() {
         return false;
     }

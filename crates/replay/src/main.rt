@@ -78,8 +78,9 @@ fn is_same(k: u32, found: Found) -> bool {
     false
 }
 
-// The records replayed and counted, up to the first that differs. Whether none does.
-fn replay_all(images: &[u8; list::IMAGES_SIZE], counts: &mut [u64; COUNTS]) -> bool {
+// The records replayed and counted, up to the first that differs.
+fn replay_all(images: &[u8; list::IMAGES_SIZE]) {
+    let mut counts = [0u64; COUNTS];
     let mut head = [0u8; list::HEAD_SIZE];
     let mut memory = [0u8; list::MEMORY_ROOM];
     let mut entries = [0u8; list::ROW_ROOM];
@@ -87,27 +88,25 @@ fn replay_all(images: &[u8; list::IMAGES_SIZE], counts: &mut [u64; COUNTS]) -> b
     let mut k: u32 = 0;
     while k < MOST_RECORDS {
         if !list::read_head(&mut head) {
-            return true;
+            break;
         }
         let found = replay(&head, images, &mut memory, &mut entries, &mut output);
         if !is_same(k, found) {
-            return false;
+            return;
         }
-        tally::count_record(counts, &head, &memory);
+        let next = tally::count_record(counts, &head, &memory);
+        counts = next;
         k += 1;
     }
-    true
+    tally::print(&counts);
 }
 
 // The list replayed; images is room for its video memories.
 fn replay_list(images: &mut [u8; list::IMAGES_SIZE]) {
-    let mut counts = [0u64; COUNTS];
-    if !read(images) {
+    if read(images) {
+        replay_all(images);
+    } else {
         io::write_all(1, b"the list ends in its video memories\n");
-        return;
-    }
-    if replay_all(images, &mut counts) {
-        tally::print(&counts);
     }
 }
 

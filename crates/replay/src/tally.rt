@@ -24,10 +24,12 @@ const DISPCNT: usize = 0x800;
 const BLDCNT: usize = 0x850;
 
 // One more of what place k counts.
-fn count(counts: &mut [u64; COUNTS], k: usize) {
+fn count(counts: [u64; COUNTS], k: usize) -> [u64; COUNTS] {
+    let mut more = counts;
     if k < COUNTS {
-        counts[k] = std::num::wrapping_add_u64(counts[k], 1);
+        more[k] = std::num::wrapping_add_u64(counts[k], 1);
     }
+    more
 }
 
 fn wide(b: u8) -> usize {
@@ -35,30 +37,30 @@ fn wide(b: u8) -> usize {
 }
 
 // A line that was drawn.
-fn count_line(counts: &mut [u64; COUNTS], memory: &[u8; list::MEMORY_ROOM]) {
+fn count_line(counts: [u64; COUNTS], memory: &[u8; list::MEMORY_ROOM]) -> [u64; COUNTS] {
     let low = wide(memory[DISPCNT]);
     if low >= 0x80 {
-        count(counts, BLANK);
-        return;
+        return count(counts, BLANK);
     }
-    count(counts, MODES + low % 8);
-    count(counts, WINDOWS + wide(memory[DISPCNT + 1]) / 0x20);
-    count(counts, EFFECTS + wide(memory[BLDCNT]) / 0x40);
+    let by_mode = count(counts, MODES + low % 8);
+    let by_windows = count(by_mode, WINDOWS + wide(memory[DISPCNT + 1]) / 0x20);
+    count(by_windows, EFFECTS + wide(memory[BLDCNT]) / 0x40)
 }
 
 // A record; the memory is that of a draw.
 pub(crate) fn count_record(
-    counts: &mut [u64; COUNTS],
+    counts: [u64; COUNTS],
     head: &[u8; list::HEAD_SIZE],
     memory: &[u8; list::MEMORY_ROOM],
-) {
+) -> [u64; COUNTS] {
     let number = word(head, list::NUMBER);
-    count(counts, list::size(head, list::GROUP));
-    count(counts, NUMBERS + number as usize);
-    count(counts, CALLS);
+    let by_group = count(counts, list::size(head, list::GROUP));
+    let by_number = count(by_group, NUMBERS + number as usize);
+    let all = count(by_number, CALLS);
     if (word(head, list::CALL) == list::DRAW) & (number == 0) {
-        count_line(counts, memory);
+        return count_line(all, memory);
     }
+    all
 }
 
 pub(crate) fn print(counts: &[u64; COUNTS]) {

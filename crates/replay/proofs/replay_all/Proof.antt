@@ -21,7 +21,6 @@ replay-all-spec =
     μ-loop
     (λ c. tt)
     (λ c κs. tt)
-    (λ c. tt)
     (λ c κs. tt)
     (λ c κs. tt)
     (λ c. tt)
@@ -29,4 +28,5 @@ replay-all-spec =
     (λ c. omega arith)
     (λ c. omega arith)
     (λ c. tt)
+    (λ c κs. tt)
     (λ c. tt))
