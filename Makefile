@@ -28,8 +28,9 @@ test: setup host-tests compare oracle-tests c-tests
 setup:
 	@tools/setup
 
-# Proves the library and writes target/staticlib/libashlarkin.a, which the host links.
+# Proves the library, two crates at a time, and writes target/staticlib/libashlarkin.a, which the host links.
 library: setup
+	@rt check ashlarkin
 	@rt staticlib ashlarkin
 
 host: library
