@@ -1,7 +1,7 @@
 // The routines that a host program in C or Rust calls: include/ashlarkin.h says the same in C. Lent buffers don't overlap.
 ghost use Rattle.judge.specs.Judge.{callOf};
 ghost use Rattle.gpu.specs.Draw.{Draws};
-ghost use Rattle.gpu.specs.Reset.{Resets};
+ghost use Rattle.entries.specs.Reset.{Resets};
 ghost use Rattle.references.specs.Step.{StepsTo};
 ghost use Rattle.drawn.specs.Draw.{DrawsRecords};
 ghost use Rattle.records.specs.Step.{StepsRecords};
@@ -51,7 +51,7 @@ pub extern "C" fn ashlarkin_draw(
 pub extern "C" fn ashlarkin_reset(entries: &mut [u8]) -> u32
     ensures { λ n. ⌜ Resets (now (entries .entry)) n (now (entries .exit)) ⌝ }
 {
-    gpu::reset(entries)
+    entries::reset(entries)
 }
 
 // The four reference numbers stepped at a line's end: 0, or 2 for another length, or 6.

@@ -1,3 +1,3 @@
 -- The laws of backgrounds. Assumes nothing.
-pub mod Points
+pub mod Pixels
 pub mod Modes

@@ -7,7 +7,7 @@ use lib.IntN.{ℤ}
 use Rattle.memory.specs.Memory.{byte}
 use Rattle.memory.specs.declared.PixelFormat.the-variants.{BPP8}
 use Rattle.regs.specs.Background.{characterBaseBlock, screenBaseBlock, affineWraparound, size, charBlock, screenBlock}
-use Rattle.background.specs.Point.{transformBgPoint, pointColor}
+use Rattle.points.specs.Point.{transformBgPoint, pointColor}
 use Rattle.regular.specs.Regular.{tileColor}
 
 -- The square has sides of 128 * 2^size (LCD I/O BG Control).

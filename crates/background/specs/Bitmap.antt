@@ -10,8 +10,8 @@ use lib.IntN.{ℤ}
 use Rattle.memory.specs.Memory.{byte, half}
 use Rattle.memory.specs.Palette.{paletteColor}
 use Rattle.regs.specs.Background.{affineWraparound}
-use Rattle.background.specs.declared.render.ViewPort.{ViewPort}
-use Rattle.background.specs.Point.{transformBgPoint, pointColor}
+use Rattle.points.specs.declared.ViewPort.{ViewPort}
+use Rattle.points.specs.Point.{transformBgPoint, pointColor}
 
 -- 3 and 4 are 240 wide, 5 is 160 (LCD I/O Display Control).
 abbrev pub bitmapWidth : ℕ → ℕ

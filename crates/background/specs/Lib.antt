@@ -1,5 +1,4 @@
 -- What the backgrounds show. Assumes nothing.
-pub mod Point
 pub mod Affine
 pub mod Bitmap
 pub mod Background

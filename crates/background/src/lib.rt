@@ -15,7 +15,6 @@ ghost use Rattle.background.specs.Background.{bgKind, backgroundColor};
 
 mod affine;
 mod bitmap;
-mod render;
 
 pub use affine::render_aff_bg;
 pub use bitmap::render_bitmap;

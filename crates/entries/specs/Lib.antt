@@ -1,3 +1,4 @@
--- What the entries of a row are. Assumes nothing.
+-- What the entries of a row are, and what a row reset gives. Assumes nothing.
 pub mod Entry
 pub mod Word
+pub mod Reset

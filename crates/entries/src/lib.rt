@@ -7,6 +7,7 @@ ghost use lib.ListN.{length};
 ghost use Rattle.rows.specs.Cells.{cellAt, putCell};
 ghost use Rattle.entries.specs.Entry.{entriesSize, entryCells, resetEntry, resetRow, wellShaped, shapedRow};
 ghost use Rattle.entries.specs.Word.{entryOf};
+ghost use Rattle.entries.specs.Reset.{Resets};
 use rgb15::Rgb15;
 use rows::word_at;
 
@@ -15,6 +16,9 @@ const ENTRIES: usize = 240;
 
 // Bytes of an entry.
 const ENTRY_SIZE: usize = 4;
+
+// Bytes of a row.
+pub const ENTRIES_SIZE: usize = 960;
 
 // What a column's entry holds; marks has bit 0 for semi-transparent and bit 1 for window.
 pub struct Entry {
@@ -71,6 +75,17 @@ pub fn reset_row(entries: &mut [u8])
         put_entry(entries, k, reset_entry());
         k += 1;
     }
+}
+
+// A row of entries reset: 0, or 2 for another length.
+pub fn reset(entries: &mut [u8]) -> u32
+    ensures { λ n. ⌜ Resets (now (entries .entry)) n (now (entries .exit)) ⌝ }
+{
+    if entries.len() != ENTRIES_SIZE {
+        return 2;
+    }
+    reset_row(entries);
+    0
 }
 
 // 1 for a word that isn't that of a well-shaped entry, else 0. Over a whole word each test is one mask: that nothing but

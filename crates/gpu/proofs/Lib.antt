@@ -1,4 +1,3 @@
 -- The laws of a draw's definitions. Assumes nothing.
-pub mod Answers
 pub mod Lines
 pub mod Given

@@ -21,8 +21,9 @@ use Rattle.memory.specs.Palette.{backdrop}
 use Rattle.entries.specs.Entry.{entryCells}
 use Rattle.sprites.specs.Sprite.{source}
 use Rattle.obj.specs.Put.{rowAfter}
-use Rattle.layers.specs.Layers.{ordered}
-use Rattle.layers.specs.Places.{places, placedLayers}
+use Rattle.sorting.specs.Ordered.{ordered}
+use Rattle.sorting.specs.Places.{places}
+use Rattle.layers.specs.Places.{placedLayers}
 use Rattle.layers.proofs.Places.{Lined}
 use Rattle.sfx.specs.Pixel.{pixel}
 use Rattle.sfx.proofs.Columns.{scanline-ordered}

@@ -1,5 +1,4 @@
--- What a draw and a row reset give, for every input. Assumes nothing.
+-- What a draw gives, for every input. Assumes nothing.
 pub mod Line
 pub mod Ready
 pub mod Draw
-pub mod Reset

@@ -1,4 +1,4 @@
-// The public routines on numbers and bytes (gpu/mod.rs).
+// The draw on numbers and bytes (gpu/mod.rs).
 ghost use mathlib.Core.Path.{_≡_};
 ghost use mathlib.Core.Bool.{true};
 ghost use lib.ListN.{length};
@@ -14,13 +14,9 @@ ghost use Rattle.judge.specs.Judge.{outputSize, callOf};
 ghost use Rattle.gpu.specs.Line.{entriesAfter, lineAfter, blankLine};
 ghost use Rattle.gpu.specs.Ready.{Ready, placeColor};
 ghost use Rattle.gpu.specs.Draw.{Draws};
-ghost use Rattle.gpu.specs.Reset.{Resets};
 use background::render_bg;
-use entries::reset_row;
-use judge::ENTRIES_SIZE;
 use judge::Verdict;
 use judge::judge_draw;
-use layers::sort_backgrounds;
 use memory::DISPLAY_WIDTH;
 use obj::render_objs;
 use regs::Reading;
@@ -28,6 +24,7 @@ use regs::iodev::read_dispcnt;
 use rgb15::Rgb15;
 use rows::put_word;
 use sfx::finalize_scanline;
+use sorting::sort_backgrounds;
 
 // What forced blank shows.
 const BLANK: u32 = 0xf8f8f8;
@@ -229,15 +226,4 @@ pub fn draw(
         }
         _ => verdict.number(),
     }
-}
-
-// A row of entries reset: 0, or 2 for another length.
-pub fn reset(entries: &mut [u8]) -> u32
-    ensures { λ n. ⌜ Resets (now (entries .entry)) n (now (entries .exit)) ⌝ }
-{
-    if entries.len() != ENTRIES_SIZE {
-        return 2;
-    }
-    reset_row(entries);
-    0
 }

@@ -5,6 +5,7 @@ ghost use Rattle.memory.specs.Sizes.{registersSize};
 ghost use Rattle.entries.specs.Entry.{entriesSize};
 ghost use Rattle.judge.specs.Judge.{callOf, haveLengths, verdict, lineVerdict, numberOf};
 use blend::read_bldy;
+use entries::ENTRIES_SIZE;
 use entries::shaped_row;
 use references::in_ranges;
 use regs::iodev::read_dispcnt;
@@ -16,8 +17,6 @@ const PALETTE_RAM_SIZE: usize = 0x400;
 const OAM_SIZE: usize = 0x400;
 
 const REGISTERS_SIZE: usize = 0x56;
-
-pub const ENTRIES_SIZE: usize = 960;
 
 const OUTPUT_SIZE: usize = 960;
 

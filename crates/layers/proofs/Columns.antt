@@ -28,7 +28,8 @@ use Rattle.windows.specs.Region.{permitted}
 use Rattle.windows.specs.Row.{wordIn, regionRow}
 use Rattle.windows.specs.declared.WindowType.{WindowType}
 use Rattle.windows.specs.declared.WindowType.the-variants.{Win0, Win1, WinObj, WinOut, WinNone}
-use Rattle.layers.specs.Layers.{Layer, Pair, isObject, keep, background, backdropLayer, objectLayer}
+use Rattle.sorting.specs.Ordered.{keep}
+use Rattle.layers.specs.Layers.{Layer, Pair, isObject, background, backdropLayer, objectLayer}
 use Rattle.layers.specs.Layers.{counts, objectCounts, firstTwo, placed, layers}
 use Rattle.layers.specs.Places.{placedLayer}
 use Rattle.layers.specs.Words.{bitOf, layerTag, objectTag, tagPriority, placeTag, permitsPlace, regionWord, columnRegion}

@@ -12,9 +12,11 @@ use Rattle.rgb15.specs.Colour.{rgb}
 use Rattle.rgb15.specs.declared.Rgb15.{Rgb15}
 use Rattle.rows.specs.Tab.{tab}
 use Rattle.rows.proofs.Tab.{getD-of-tab}
-use Rattle.layers.specs.Layers.{Layer, ordered, background, backgrounds}
-use Rattle.layers.specs.Places.{places, placedLayer, lineColor, placedLayers}
-use Rattle.layers.proofs.Sorting.{small, length-ordered, small-ordered}
+use Rattle.sorting.specs.Ordered.{ordered}
+use Rattle.sorting.specs.Places.{places}
+use Rattle.sorting.proofs.Sorting.{small, length-ordered, small-ordered}
+use Rattle.layers.specs.Layers.{Layer, background, backgrounds}
+use Rattle.layers.specs.Places.{placedLayer, lineColor, placedLayers}
 
 small-first : (bg : ℕ) (rest : List ℕ) → small (bg ∷ rest) ≡ true → ltb bg 4 ≡ true
 unfolding small

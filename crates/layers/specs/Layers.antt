@@ -1,14 +1,15 @@
 -- The two layers of a column (01, "Windows and blending", its first paragraph; GBATEK, "LCD I/O BG Control", "LCD I/O Window
 -- Feature", "LCD I/O Color Special Effects"). Assumes nothing.
 use Prim.Native.Nat.{ℕ}
-use mathlib.Core.Bool.{Bool, false, cond, not, _&&_}
-use mathlib.Core.List.{List, [], _∷_, _++_, map}
+use mathlib.Core.Bool.{Bool, cond, not, _&&_}
+use mathlib.Core.List.{List, map}
 use lib.Dec.{eqb, leb}
 use lib.ListN.{getD}
 use Rattle.rgb15.specs.Colour.{isTransparent}
 use Rattle.regs.specs.Registers.{dispcnt, bgcnt}
-use Rattle.regs.specs.Display.{enableBg, enableObj}
+use Rattle.regs.specs.Display.{enableObj}
 use Rattle.regs.specs.Background.{priority}
+use Rattle.sorting.specs.Ordered.{keep, ordered}
 use Rattle.window.specs.Windows.{permits}
 use Rattle.blend.specs.Layers.{backgroundLayer, layerBit}
 use Rattle.blend.specs.declared.layer.RenderLayerKind.{RenderLayerKind}
@@ -24,23 +25,6 @@ pub record Layer : Type 0 where
 -- Whether the layer is that of objects.
 abbrev pub isObject : RenderLayerKind → Bool
 isObject kind = eqb (layerBit kind) (layerBit Objects)
-
--- Those of the list that the test picks, in their order.
-unfoldable pub keep : {A : Type 0} → (A → Bool) → List A → List A
-keep test [] = []
-keep test (a ∷ rest) = cond (test a) (a ∷ keep test rest) (keep test rest)
-
--- Whether a background is on and has the priority (LCD I/O Display Control, LCD I/O BG Control).
-unfoldable pub stands : List ℕ → ℕ → ℕ → Bool
-stands registers p bg = getD (enableBg (dispcnt registers)) bg false && eqb (priority (bgcnt registers bg)) p
-
--- The backgrounds that are on and have the priority, by number.
-abbrev pub standing : List ℕ → ℕ → List ℕ
-standing registers p = keep (stands registers p) (0 ∷ 1 ∷ 2 ∷ 3 ∷ [])
-
--- Backgrounds stand in order of (priority, number); those that are off don't.
-unfoldable pub ordered : List ℕ → List ℕ
-ordered registers = standing registers 0 ++ standing registers 1 ++ standing registers 2 ++ standing registers 3
 
 -- A background as a layer, with its colour at the column.
 abbrev pub background : List ℕ → ℕ → ℕ → Layer

@@ -1,5 +1,4 @@
 -- What the two layers of a column are. Assumes nothing.
 pub mod Layers
 pub mod Places
-pub mod Sorting
 pub mod Words

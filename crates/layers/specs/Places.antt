@@ -1,5 +1,5 @@
--- The four places of a line's backgrounds (01, "What must change shape": sort and iterators become a four-place ordering;
--- GBATEK, "LCD I/O BG Control"). Assumes nothing.
+-- The layers of a line's four places (01, "What must change shape": sort and iterators become a four-place ordering). Assumes
+-- nothing.
 use Prim.Native.Nat.{ℕ}
 use mathlib.Core.Bool.{cond}
 use mathlib.Core.List.{List, [], _∷_}
@@ -8,10 +8,6 @@ use lib.ListN.{getD}
 use Rattle.rgb15.specs.Colour.{rgb}
 use Rattle.rgb15.specs.declared.Rgb15.{Rgb15}
 use Rattle.layers.specs.Layers.{Layer, background}
-
--- A list of backgrounds in four places, of which one with none holds 4.
-unfoldable pub places : List ℕ → List ℕ
-places order = getD order 0 4 ∷ getD order 1 4 ∷ getD order 2 4 ∷ getD order 3 4 ∷ []
 
 -- The layer of a place, if it holds a background, before those of the places after it.
 unfoldable pub placedLayer : List ℕ → ℕ → ℕ → List Layer → List Layer

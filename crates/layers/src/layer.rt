@@ -6,7 +6,6 @@ ghost use lib.ListN.{length};
 ghost use Rattle.memory.specs.Sizes.{paletteRamSize, registersSize};
 ghost use Rattle.layers.specs.Words.{bitOf, layerTag, modeNumber, objectTag, placeTag, LineLayersOf};
 ghost use Rattle.layers.specs.Words.{shows, putBackground, backgroundPair, putObject};
-use crate::order::NO_BACKGROUND;
 use blend::BlendControl;
 use blend::BlendMode;
 use blend::RenderLayerKind;
@@ -15,6 +14,7 @@ use entries::Entry;
 use memory::read_backdrop;
 use regs::iodev::read_bgcnt;
 use rgb15::Rgb15;
+use sorting::NO_BACKGROUND;
 
 // The parts of a layer's tag: bit 0 is a first target, bit 1 a second target, bit 2 a semi-transparent object, and the
 // priority stands from bit 3 on.

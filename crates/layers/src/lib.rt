@@ -1,7 +1,5 @@
-// The layers of a line's columns: the top and the bottom one (gpu/layer.rs), the order of backgrounds and what regions permit
-// (gpu/sfx.rs).
+// The layers of a line's columns: the top and the bottom one (gpu/layer.rs), and what regions permit (gpu/sfx.rs).
 mod layer;
-mod order;
 mod region;
 
 pub use layer::FIRST_TARGET;
@@ -14,5 +12,4 @@ pub use layer::choose;
 pub use layer::line_layers;
 pub use layer::object_tag;
 pub use layer::put_object;
-pub use order::sort_backgrounds;
 pub use region::line_regions;

@@ -19,8 +19,10 @@ use Rattle.entries.specs.declared.Entry.{Entry}
 use Rattle.windows.specs.Region.{permitted}
 use Rattle.windows.specs.Row.{regionAt}
 use Rattle.windows.specs.declared.WindowType.{WindowType}
-use Rattle.layers.specs.Layers.{Pair, ordered, backgrounds, layers}
-use Rattle.layers.specs.Places.{places, lineColor, placedLayers}
+use Rattle.sorting.specs.Ordered.{ordered}
+use Rattle.sorting.specs.Places.{places}
+use Rattle.layers.specs.Layers.{Pair, backgrounds, layers}
+use Rattle.layers.specs.Places.{lineColor, placedLayers}
 use Rattle.layers.specs.Words.{objectTag, regionWord, columnRegion, LineLayersOf}
 use Rattle.layers.specs.declared.layer.LineLayers.{LineLayers}
 use Rattle.layers.proofs.Columns.{placedColors, column-pair, region-bits}

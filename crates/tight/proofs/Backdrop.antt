@@ -13,7 +13,8 @@ use Rattle.regs.specs.Registers.{DISPCNT, BLDCNT}
 use Rattle.regs.specs.declared.reading.Reading.{Reading}
 use Rattle.entries.specs.declared.Entry.{Entry}
 use Rattle.windows.specs.Region.{region, permitted}
-use Rattle.layers.specs.Layers.{backgrounds, keep, stands, ordered, firstTwo, objectCounts, layers}
+use Rattle.sorting.specs.Ordered.{keep, stands, ordered}
+use Rattle.layers.specs.Layers.{backgrounds, firstTwo, objectCounts, layers}
 use Rattle.effects.specs.Effects.{effect, effectColor}
 use Rattle.sfx.specs.Pixel.{caseIn, caseOf, caseColor, pixel}
 use Rattle.gpu.specs.Line.{pixelAt, lineAfter}

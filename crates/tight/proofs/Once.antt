@@ -6,7 +6,7 @@ use mathlib.Core.List.{List}
 use Rattle.judge.specs.Judge.{Call}
 use Rattle.gpu.specs.Draw.{Drawing, draw, Draws}
 use Rattle.references.specs.Step.{Answer}
-use Rattle.gpu.specs.Reset.{reset, Resets}
+use Rattle.entries.specs.Reset.{reset, Resets}
 use Rattle.references.specs.Step.{Steps, step, StepsTo}
 
 -- ---- the draw

@@ -2,7 +2,7 @@
 -- Assumes nothing.
 use native.Mathlib.Omega.{arith}
 use borrow.Author.Needs.{needs}
-use Rattle.background.proofs.Points.{tileRow-bound, affinePixel-is}
+use Rattle.background.proofs.Pixels.{tileRow-bound, affinePixel-is}
 use Rattle.background.proofs.affine.aff_bg_pixel.Statement.{statement}
 use Rattle.background.proofs.affine.aff_bg_pixel.Tie as tie
 

@@ -11,7 +11,7 @@ use Rattle.signed.specs.Signed.{inRange}
 use Rattle.rows.proofs.Tabbed.{Tabbed, tabbed-none, tabbed-all}
 use Rattle.background.specs.Affine.{affineColor}
 use Rattle.regular.proofs.Lines.{colored-more, column-fits, bytes-fit, next-fits, fewer-left}
-use Rattle.background.proofs.Points.{affineColor-is}
+use Rattle.background.proofs.Pixels.{affineColor-is}
 use Rattle.background.proofs.affine.render_aff_bg.Statement.{statement}
 use Rattle.background.proofs.affine.render_aff_bg.Tie as tie
 

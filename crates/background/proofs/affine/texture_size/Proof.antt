@@ -6,7 +6,7 @@ use native.Mathlib.Omega.{arith}
 use lib.Pow.{shl-exact}
 use borrow.Author.Needs.{needs}
 use Rattle.signed.proofs.Point.{point-sides}
-use Rattle.background.proofs.Points.{affineSide-bound}
+use Rattle.background.proofs.Pixels.{affineSide-bound}
 use Rattle.background.proofs.affine.texture_size.Statement.{statement}
 use Rattle.background.proofs.affine.texture_size.Tie as tie
 

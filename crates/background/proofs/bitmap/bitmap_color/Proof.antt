@@ -1,7 +1,7 @@
 -- background::bitmap::bitmap_color meets its contract: the test is that of pointColor, and the pixel is the one at the point wrapped.
 -- Assumes nothing.
 use borrow.Author.Needs.{needs}
-use Rattle.background.proofs.Points.{pointColor-hidden, pointColor-shown}
+use Rattle.points.proofs.Points.{pointColor-hidden, pointColor-shown}
 use Rattle.background.proofs.bitmap.bitmap_color.Statement.{statement}
 use Rattle.background.proofs.bitmap.bitmap_color.Tie as tie
 

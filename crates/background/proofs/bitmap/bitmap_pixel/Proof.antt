@@ -7,7 +7,7 @@ use mir.Syntax.{w64}
 use mir.Val.{Fits}
 use borrow.Author.Needs.{needs}
 use Rattle.memory.specs.Sizes.{videoRamSize}
-use Rattle.background.proofs.Points.{row-bound, bitmapPixel-byte, bitmapPixel-half}
+use Rattle.background.proofs.Pixels.{row-bound, bitmapPixel-byte, bitmapPixel-half}
 use Rattle.background.proofs.bitmap.bitmap_pixel.Statement.{statement}
 use Rattle.background.proofs.bitmap.bitmap_pixel.Tie as tie
 

@@ -11,7 +11,7 @@ use Rattle.signed.specs.Signed.{inRange}
 use Rattle.rows.proofs.Tabbed.{Tabbed, tabbed-none, tabbed-all}
 use Rattle.background.specs.Bitmap.{bitmapColor}
 use Rattle.regular.proofs.Lines.{colored-more, column-fits, bytes-fit, next-fits, fewer-left}
-use Rattle.background.proofs.Points.{bitmapViewPort-sides, bitmapColor-is}
+use Rattle.background.proofs.Pixels.{bitmapViewPort-sides, bitmapColor-is}
 use Rattle.background.proofs.bitmap.render_bitmap.Statement.{statement}
 use Rattle.background.proofs.bitmap.render_bitmap.Tie as tie
 

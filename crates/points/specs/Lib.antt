@@ -1,0 +1,2 @@
+-- Which point of a background a column shows. Assumes nothing.
+pub mod Point

@@ -1,0 +1,4 @@
+-- In which order backgrounds stand. Assumes nothing.
+pub mod Ordered
+pub mod Places
+pub mod Sorting
