@@ -1,16 +1,14 @@
 -- Laws of points and pixels of affine and bitmap backgrounds. No contract cites this file. Assumes nothing.
-use mathlib.Core.Path.{_≡_, refl, sym, ap, _∙_}
+use mathlib.Core.Path.{_≡_, refl, ap, _∙_}
 use mathlib.Core.Bool.{Bool, true, false, not, cond}
 use lib.Dec.{eqb}
 use Prim.Native.Nat.{ℕ, zero, suc, _+_, _-_, _*_, _/_, _%_, _^_, _≤_, _<_}
 use mathlib.Core.List.{List}
-use native.Mathlib.Nat.{mod-eq-of-lt, mul-le-mul}
+use native.Mathlib.Nat.{mul-le-mul}
 use native.Mathlib.Omega.{arith}
 use lib.IntN.{ℤ, pos, subℕ, _+ℤ_, _*ℤ_}
-use borrow.Author.Tests.{not-true, not-false, eq-eqb, ne-eqb}
-use Rattle.rgb15.specs.Colour.{transparent}
-use Rattle.signed.specs.Signed.{signed16, down256, wrapped}
-use Rattle.signed.proofs.Difference.{up, subℕ-view}
+use borrow.Author.Tests.{eq-eqb, ne-eqb}
+use Rattle.signed.specs.Signed.{signed16, down256}
 use Rattle.memory.specs.Memory.{byte, half}
 use Rattle.memory.specs.Palette.{paletteColor}
 use Rattle.memory.specs.declared.PixelFormat.the-variants.{BPP8}

@@ -1,6 +1,6 @@
 -- Lines of backgrounds and entries, by what tests find. No contract cites this file. Assumes nothing.
 use Prim.Native.Nat.{ℕ, _≤_, _<_}
-use mathlib.Core.Path.{_≡_, sym, ap, _∙_}
+use mathlib.Core.Path.{_≡_, sym, _∙_}
 use mathlib.Core.Bool.{true, false}
 use mathlib.Core.List.{List, replicate}
 use lib.Dec.{ltb}
@@ -10,7 +10,7 @@ use Rattle.rgb15.specs.declared.Rgb15.{Rgb15}
 use Rattle.rows.specs.Tab.{tab}
 use Rattle.rows.specs.Cells.{cellAt, rowOf}
 use Rattle.rows.specs.Words.{wordCells}
-use Rattle.rows.proofs.Tab.{tab-cong, tab-replicate}
+use Rattle.rows.proofs.Tab.{tab-replicate}
 use Rattle.regs.specs.Registers.{dispcnt}
 use Rattle.regs.specs.Display.{enableObj}
 use Rattle.regs.specs.Reading.{readingOf}

@@ -11,7 +11,7 @@ use borrow.Author.Tests.{ne-eqb}
 use Rattle.rgb15.specs.Colour.{transparent, isTransparent}
 use Rattle.memory.specs.Memory.{byte, half}
 use Rattle.memory.specs.Palette.{paletteColor}
-use Rattle.memory.specs.Tiles.{colours, paletteBank, tilePixel}
+use Rattle.memory.specs.Tiles.{tileSize, colours, paletteBank, tilePixel}
 use Rattle.memory.specs.declared.PixelFormat.{PixelFormat}
 use Rattle.memory.specs.declared.PixelFormat.the-variants.{BPP4, BPP8}
 
@@ -28,6 +28,11 @@ split P false f g = g refl
 pub half-bound : (bytes : List ℕ) → Bytes bytes → (at : ℕ) → half bytes at < 0x10000
 unfolding half
 half-bound bytes small at = omega (arith, small at, small (at + 1))
+
+-- A tile is at most 64 bytes.
+pub tileSize-bound : (format : PixelFormat) → tileSize format ≤ 64
+tileSize-bound BPP4 = omega arith
+tileSize-bound BPP8 = omega arith
 
 module _ (palette : List ℕ) (offset bank : ℕ) where
   -- Index 0 is transparent.

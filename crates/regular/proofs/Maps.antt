@@ -13,7 +13,7 @@ use Rattle.rows.specs.Tab.{tab}
 use Rattle.rows.proofs.Tab.{getD-of-tab, tab-cong}
 use Rattle.memory.specs.Tiles.{tileSize, paletteBank}
 use Rattle.memory.specs.declared.PixelFormat.{PixelFormat}
-use Rattle.memory.specs.declared.PixelFormat.the-variants.{BPP4, BPP8}
+use Rattle.memory.proofs.Laws.{tileSize-bound}
 use Rattle.tiles.specs.Flip.{flipped}
 use Rattle.tiles.proofs.Empty.{emptyRow, row-empty}
 use Rattle.regs.specs.Background.{BgControlOf, RegularSize, charBlock, screenBlock, regularWidth, regularHeight, tileFormat, size}
@@ -21,7 +21,7 @@ use Rattle.regs.specs.declared.BgControl.{BgControl}
 use Rattle.regs.specs.declared.BgSize.{BgSize}
 use Rattle.regs.proofs.Laws.{regularWidth-cases}
 use Rattle.regular.specs.Regular.{tileIndex, xFlip, yFlip, entryBank, tileColor, entryColor}
-use Rattle.regular.specs.Regular.{regularX, regularY, mapEntry, regularPixel, regularColor}
+use Rattle.regular.specs.Regular.{regularX, mapEntry, regularPixel, regularColor}
 
 -- The blocks of the rows above a pixel of a regular map.
 pub blockRow-bound : (width y : ℕ) → width ≤ 512 → y < 512 → width / 256 * (y / 256) ≤ 2
@@ -47,10 +47,6 @@ pub screenBlock-bound : {control : ℕ} {b : BgControl} {screen : ℕ} → BgCon
 screenBlock-bound control-is e = omega (arith, control-is .screen-is)
 
 -- The tiles before the one of an entry.
-tileSize-bound : (format : PixelFormat) → tileSize format ≤ 64
-tileSize-bound BPP4 = omega arith
-tileSize-bound BPP8 = omega arith
-
 pub tiles-bound : (format : PixelFormat) {index size : ℕ} → index ≤ 1023 → size ≡ tileSize format → index * size ≤ 1023 * 64
 tiles-bound format {index} {size} index≤ e =
     let size≤ : size ≤ 64 = omega (arith, tileSize-bound format) in

@@ -18,7 +18,8 @@ pub bitOf-zero : (w : ℕ) → bitOf w 0 ≡ w % 2
 unfolding bitOf
 bitOf-zero w = omega arith
 
-bitOf-suc : (w i : ℕ) → bitOf w (suc i) ≡ bitOf (w / 2) i
+-- The bits above the lowest are those of the half.
+pub bitOf-suc : (w i : ℕ) → bitOf w (suc i) ≡ bitOf (w / 2) i
 unfolding bitOf
 bitOf-suc w i = ap (λ (k : ℕ). w / 2 ^ k % 2) (sym (one-add i)) ∙ ap (λ (k : ℕ). k % 2) (sym (shr-shr w 1 i))
 

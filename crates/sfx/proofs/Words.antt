@@ -1,12 +1,9 @@
 -- Laws of words, for the functions that compute with them: what the calls of each give is what its definition says. No contract
 -- cites this file. Assumes nothing.
-use Prim.Native.Nat.{ℕ, _+_, _-_, _*_, _<_}
+use Prim.Native.Nat.{ℕ, _-_}
 use mathlib.Core.Path.{_≡_, ap, _∙_}
 use mathlib.Core.List.{List}
-use native.Mathlib.Omega.{arith}
 use lib.ListN.{getD}
-use mir.Syntax.{w64}
-use mir.Val.{Fits}
 use Rattle.bits.specs.Bits.{bit}
 use Rattle.rgb15.specs.Colour.{rgb}
 use Rattle.rgb15.specs.declared.Rgb15.{Rgb15}
@@ -48,17 +45,3 @@ pub atColumn-is : (color : ℕ → ℕ → ℕ → ℕ → ℕ → ℕ → ℕ �
     → c ≡ atColumn color regions tags objects line0 line1 line2 line3 column
 unfolding atColumn
 atColumn-is color regions tags objects line0 line1 line2 line3 column c e = ap rgb e
-
--- Where a column's word and its colour lie in their rows.
-pub words-fit : {column : ℕ} → column < 240 → Fits w64 (column * 4)
-words-fit lt = record { fits = omega arith }
-
-pub halves-fit : {column : ℕ} → column < 240 → Fits w64 (column * 2)
-halves-fit lt = record { fits = omega arith }
-
--- The next column.
-pub next-fits : {column : ℕ} → column < 240 → Fits w64 (column + 1)
-next-fits lt = record { fits = omega arith }
-
-pub next-less : {column : ℕ} → column < 240 → 240 - (column + 1) < 240 - column
-next-less lt = omega arith

@@ -6,17 +6,10 @@ use mathlib.Core.Path.{_≡_, ap, ap₂, _∙_}
 use mathlib.Core.List.{List}
 use Rattle.memory.specs.Palette.{paletteColor}
 use Rattle.memory.specs.Tiles.{tileSize, paletteBank, tilePixel}
-use Rattle.memory.specs.declared.PixelFormat.{PixelFormat}
-use Rattle.memory.specs.declared.PixelFormat.the-variants.{BPP4, BPP8}
 use Rattle.regs.specs.declared.ObjMapping.{ObjMapping}
 use Rattle.regs.specs.declared.reading.Reading.{Reading}
 use Rattle.sprites.specs.Tiles.{tileBase, tileRow, tileAt, texel}
 use Rattle.sprites.specs.declared.attrs.ObjAttrs.{ObjAttrs}
-
--- A tile is at most 64 bytes.
-pub tileSize-bound : (format : PixelFormat) → tileSize format ≤ 64
-tileSize-bound BPP4 = omega arith
-tileSize-bound BPP8 = omega arith
 
 module _ (row y : ℕ) (row≤ : row ≤ 32) (y< : y < 64) where
   -- At most 7 rows of at most 32 tiles lie above.

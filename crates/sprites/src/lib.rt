@@ -1,8 +1,7 @@
 // Sprites, from their attributes to the colour of a pixel (gpu/render/obj.rs). The attributes have a file of their own.
 ghost use mathlib.Core.Path.{_≡_};
-ghost use mathlib.Core.Bool.{true};
-ghost use Prim.Native.Nat.{_+_, _*_, _/_, _%_, _≤_, _<_};
-ghost use lib.ListN.{length, getD, take};
+ghost use Prim.Native.Nat.{_<_};
+ghost use lib.ListN.{length};
 ghost use Rattle.memory.specs.Sizes.{videoRamSize, paletteRamSize, oamSize};
 ghost use Rattle.sprites.specs.Attrs.{sprite, Decoded};
 ghost use Rattle.sprites.specs.Tiles.{tilesStart, texel};

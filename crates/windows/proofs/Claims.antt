@@ -2,7 +2,6 @@
 use Prim.Native.Nat.{ℕ, zero, suc, _+_, _-_, _*_, _/_, _%_, _^_, _≤_, _<_, min}
 use native.Mathlib.Decide.{ℕ-discrete, decLt}
 use native.Mathlib.Nat.{pow-suc}
-use native.Mathlib.Numerals.{one-add}
 use native.Mathlib.Omega.{arith}
 use mathlib.Core.Path.{_≡_, refl, sym, ap, ap₂, _∙_}
 use mathlib.Core.Bool.{Bool, true, false, _&&_, _||_, or-false, true≢false, false≢true}
@@ -10,23 +9,20 @@ use mathlib.Core.List.{List, [], _∷_}
 use lib.Bits.{bitOr, or-shr, or-mod, or-lt, or-zero-l, or-zero-r, or-self}
 use lib.Dec.{leb, eqb, leb·zero, leb·suc-suc}
 use lib.ListN.{length, getD}
-use lib.Pow.{pow-pos, pow-mono, pow-lt, shr-shr}
+use lib.Pow.{pow-pos, pow-mono, pow-lt}
 use lib.Seq.{ext-getD, getD-set-same, getD-set-other}
-use borrow.Author.Tests.{eq-eqb, leb-true, leb-false}
+use borrow.Author.Tests.{eq-eqb}
+use Rattle.signed.proofs.Order.{leb-same}
 use Rattle.rows.specs.Below.{between}
 use Rattle.rows.specs.Marks.{marked, withMark, markAll}
 use Rattle.rows.proofs.Below.{between-inside, between-before, between-past}
-use Rattle.rows.proofs.Bits.{bitOf, bitOf-zero, bitOf-none, bitOf-bound}
+use Rattle.rows.proofs.Bits.{bitOf, bitOf-zero, bitOf-suc, bitOf-none, bitOf-bound}
 use Rattle.rows.proofs.Marks.{marked-is, length-markAll, marked-markAll, marked-markAll-past}
 use Rattle.memory.proofs.Laws.{split}
 use Rattle.windows.specs.Walk.{Spanned, holds}
 use Rattle.windows.specs.declared.Columns.{Columns}
 
 -- ---- one bit
-
-bitOf-suc : (w i : ℕ) → bitOf w (suc i) ≡ bitOf (w / 2) i
-unfolding bitOf
-bitOf-suc w i = ap (λ (k : ℕ). w / 2 ^ k % 2) (sym (one-add i)) ∙ ap (λ (k : ℕ). k % 2) (sym (shr-shr w 1 i))
 
 eqb-or : (a b : ℕ) → a < 2 → b < 2 → eqb (bitOr a b) 1 ≡ (eqb a 1 || eqb b 1)
 eqb-or zero b p q = ap (λ (n : ℕ). eqb n 1) (or-zero-l b)
@@ -109,23 +105,14 @@ module _ (left right first : ℕ) {r l high low : ℕ} (right-past : r ≡ right
   pub low-less : high - low ≡ 2 ^ min 64 (right - first) - 2 ^ min 64 (left - first)
   low-less = simp (sym right-past, sym left-past) (omega (arith, pow-pos (min 64 l), pow-pos (min 64 r)))
 
-leb-cong : (a b c d : ℕ) → (a ≤ b → c ≤ d) → (c ≤ d → a ≤ b) → leb a b ≡ leb c d
-leb-cong a b c d f g = go (leb a b) refl (leb c d) refl
-  where
-    go : (s : Bool) → leb a b ≡ s → (t : Bool) → leb c d ≡ t → s ≡ t
-    go true p true q = refl
-    go false p false q = refl
-    go true p false q = absurd (omega (arith, f (leb-true a b p), leb-false c d q))
-    go false p true q = absurd (omega (arith, g (leb-true c d q), leb-false a b p))
-
 -- Column j of the word is the line's column first + j.
 between-word : (left right first j : ℕ) → j < 64
     → between (min 64 (left - first)) (min 64 (right - first)) j ≡ between left right (first + j)
 unfolding between
 between-word left right first j h =
     ap₂ _&&_
-    (leb-cong (min 64 (left - first)) j left (first + j) (λ p. omega arith) (λ p. omega arith))
-    (leb-cong (suc j) (min 64 (right - first)) (suc (first + j)) right (λ p. omega arith) (λ p. omega arith))
+    (leb-same (min 64 (left - first)) j left (first + j) (λ p. omega arith) (λ p. omega arith))
+    (leb-same (suc j) (min 64 (right - first)) (suc (first + j)) right (λ p. omega arith) (λ p. omega arith))
 
 bitOf-marksIn : (c : Columns) → Spanned c → (first j : ℕ) → j < 64 → eqb (bitOf (marksIn c first) j) 1 ≡ holds c (first + j)
 bitOf-marksIn c spanned first j h =

@@ -1,7 +1,7 @@
 -- gpu::render_line meets its contract: each place's line is that of its background.
 -- Assumes nothing.
 use Prim.Native.Nat.{_<_}
-use mathlib.Core.Path.{_≡_, sym, ap, _∙_}
+use mathlib.Core.Path.{_≡_, ap, _∙_}
 use mathlib.Core.Bool.{true}
 use lib.ListN.{length, getD}
 use mir.Syntax.{w32}

@@ -2,7 +2,6 @@
 -- Assumes nothing.
 use mathlib.Core.Path.{_∙_, ap}
 use mir.Facts.{toZ-ofZ}
-use borrow.Author.Needs.{needs}
 use Rattle.rgb15.specs.Colour.{rgb}
 use Rattle.rows.specs.Tab.{tab}
 use Rattle.background.specs.Background.{backgroundColor}

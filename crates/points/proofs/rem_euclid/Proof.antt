@@ -1,9 +1,8 @@
 -- points::rem_euclid meets its contract: the bias is a multiple of the side, and a coordinate inside is its own remainder.
 -- Assumes nothing.
 use Prim.Native.Nat.{_-_}
-use mathlib.Core.Path.{_≡_, sym, _∙_}
-use native.Mathlib.Nat.{mod-lt, mod-eq-of-lt}
-use native.Mathlib.Omega.{arith}
+use mathlib.Core.Path.{sym}
+use native.Mathlib.Nat.{mod-lt}
 use borrow.Author.Needs.{needs}
 use Rattle.signed.proofs.Remainder.{wrapped-subℕ}
 use Rattle.points.proofs.Points.{wrapped-inside}

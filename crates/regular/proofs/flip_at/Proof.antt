@@ -1,6 +1,5 @@
 -- regular::flip_at meets its contract: the two arms are those of flipped.
 -- Assumes nothing.
-use native.Mathlib.Omega.{arith}
 use borrow.Author.Needs.{needs}
 use Rattle.regular.proofs.flip_at.Statement.{statement}
 use Rattle.regular.proofs.flip_at.Tie as tie

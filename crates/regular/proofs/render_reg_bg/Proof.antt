@@ -9,7 +9,7 @@ use borrow.Author.Needs.{needs}
 use Rattle.rgb15.specs.Colour.{rgb, transparent}
 use Rattle.rows.proofs.Tabbed.{Tabbed, tabbed-none, tabbed-more, tabbed-all}
 use Rattle.regular.specs.Regular.{regularColor}
-use Rattle.regular.proofs.Lines.{bytes-fit, next-fits, fewer-left}
+use Rattle.rows.proofs.Columns.{halves-fit, next-fits, fewer-left}
 use Rattle.regular.proofs.Maps.{regularColumn-is}
 use Rattle.regular.proofs.render_reg_bg.Statement.{statement}
 use Rattle.regular.proofs.render_reg_bg.Tie as tie
@@ -54,7 +54,7 @@ render-reg-bg-spec =
     (λ c. tile-column-fits _ (c .loop-test .taken))
     (λ c. tile-bytes-fit _ (c .loop-test .taken))
     (λ c. tile-column _ (c .loop-test .taken))
-    (λ c. bytes-fit (c .before .loop-test .taken))
+    (λ c. halves-fit (c .before .loop-test .taken))
     (λ c. c .before .loop-test .taken)
     (λ c. next-fits (c .before .loop-test .taken))
     (λ c. fewer-left (c .before .loop-test .taken))

@@ -5,7 +5,7 @@ use mathlib.Core.Path.{refl}
 use native.Mathlib.Omega.{arith}
 use lib.ListN.{getD}
 use Rattle.rows.proofs.Tested.{Summed, summed-none, summed-more, summed-all}
-use Rattle.sfx.proofs.Words.{halves-fit, next-fits, next-less}
+use Rattle.rows.proofs.Columns.{halves-fit, next-fits, fewer-left}
 use Rattle.sfx.proofs.count_semi.Statement.{statement}
 use Rattle.sfx.proofs.count_semi.Tie as tie
 
@@ -38,6 +38,6 @@ count-semi-spec =
     (λ c. c .loop-test .taken)
     add-count
     (λ c. next-fits (c .loop-test .taken))
-    (λ c. next-less (c .loop-test .taken))
+    (λ c. fewer-left (c .loop-test .taken))
     loop-again
     returns)

@@ -4,7 +4,8 @@ use Prim.Native.Nat.{_-_}
 use mathlib.Core.Path.{refl}
 use Rattle.rows.proofs.Tabbed.{Tabbed, tabbed-none, tabbed-more, tabbed-all}
 use Rattle.sfx.specs.Words.{columnColor, atColumn}
-use Rattle.sfx.proofs.Words.{atColumn-is, halves-fit, next-fits, next-less}
+use Rattle.rows.proofs.Columns.{halves-fit, next-fits, fewer-left}
+use Rattle.sfx.proofs.Words.{atColumn-is}
 use Rattle.sfx.proofs.finalize_row.Statement.{statement}
 use Rattle.sfx.proofs.finalize_row.Tie as tie
 
@@ -56,6 +57,6 @@ finalize-row-spec =
     (λ c. halves-fit (c .before .before .before .before .before .loop-test .taken))
     (λ c. c .before .before .before .before .before .loop-test .taken)
     (λ c. next-fits (c .before .before .before .before .before .loop-test .taken))
-    (λ c. next-less (c .before .before .before .before .before .loop-test .taken))
+    (λ c. fewer-left (c .before .before .before .before .before .loop-test .taken))
     loop-again
     returns)

@@ -6,7 +6,7 @@ use Rattle.rows.specs.Cells.{cellAt}
 use Rattle.rows.proofs.Tabbed.{Tabbed, tabbed-none, tabbed-more, tabbed-all}
 use Rattle.entries.specs.Entry.{entryCells}
 use Rattle.entries.specs.declared.Entry.{Entry}
-use Rattle.sfx.proofs.Words.{halves-fit, next-fits, next-less}
+use Rattle.rows.proofs.Columns.{halves-fit, next-fits, fewer-left}
 use Rattle.sfx.proofs.object_colors.Statement.{statement}
 use Rattle.sfx.proofs.object_colors.Tie as tie
 
@@ -39,6 +39,6 @@ object-colors-spec =
     (λ c. halves-fit (c .before .loop-test .taken))
     (λ c. c .before .loop-test .taken)
     (λ c. next-fits (c .before .loop-test .taken))
-    (λ c. next-less (c .before .loop-test .taken))
+    (λ c. fewer-left (c .before .loop-test .taken))
     loop-again
     returns)

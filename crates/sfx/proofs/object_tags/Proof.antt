@@ -6,7 +6,7 @@ use Rattle.rows.specs.Cells.{cellAt}
 use Rattle.rows.proofs.Tabbed.{Tabbed, tabbed-none, tabbed-more, tabbed-all}
 use Rattle.entries.specs.Entry.{entryCells}
 use Rattle.layers.specs.Words.{objectTag}
-use Rattle.sfx.proofs.Words.{halves-fit, next-fits, next-less}
+use Rattle.rows.proofs.Columns.{halves-fit, next-fits, fewer-left}
 use Rattle.sfx.proofs.object_tags.Statement.{statement}
 use Rattle.sfx.proofs.object_tags.Tie as tie
 
@@ -42,6 +42,6 @@ object-tags-spec =
     (λ c. halves-fit (c .before .before .loop-test .taken))
     (λ c. c .before .before .loop-test .taken)
     (λ c. next-fits (c .before .before .loop-test .taken))
-    (λ c. next-less (c .before .before .loop-test .taken))
+    (λ c. fewer-left (c .before .before .loop-test .taken))
     loop-again
     returns)

@@ -5,7 +5,7 @@ use mathlib.Core.Path.{refl}
 use Rattle.rgb15.specs.Colour.{toRgb24}
 use Rattle.rows.proofs.Tabbed.{Tabbed, tabbed-none, tabbed-more, tabbed-all}
 use Rattle.layers.specs.Places.{lineColor}
-use Rattle.sfx.proofs.Words.{words-fit, halves-fit, next-fits, next-less}
+use Rattle.rows.proofs.Columns.{words-fit, halves-fit, next-fits, fewer-left}
 use Rattle.sfx.proofs.wide_row.Statement.{statement}
 use Rattle.sfx.proofs.wide_row.Tie as tie
 
@@ -40,6 +40,6 @@ wide-row-spec =
     (λ c. words-fit (c .before .before .loop-test .taken))
     (λ c. c .before .before .loop-test .taken)
     (λ c. next-fits (c .before .before .loop-test .taken))
-    (λ c. next-less (c .before .before .loop-test .taken))
+    (λ c. fewer-left (c .before .before .loop-test .taken))
     loop-again
     returns)

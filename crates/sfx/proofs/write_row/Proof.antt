@@ -7,7 +7,7 @@ use borrow.Author.Needs.{needs}
 use lib.ListN.{getD}
 use Rattle.rows.specs.Words.{wordCells}
 use Rattle.rows.proofs.Passed.{Passed, started, turned, filled}
-use Rattle.sfx.proofs.Words.{words-fit, next-fits, next-less}
+use Rattle.rows.proofs.Columns.{words-fit, next-fits, fewer-left}
 use Rattle.sfx.proofs.write_row.Statement.{statement}
 use Rattle.sfx.proofs.write_row.Tie as tie
 
@@ -45,7 +45,7 @@ write-row-spec =
     (λ c. c .before .loop-test .taken)
     (λ c κs. let turn = c .before in cell-inside (turn .loop-test .taken) (turn .before .loop .inv .size))
     (λ c. next-fits (c .before .before .before .before .loop-test .taken))
-    (λ c. next-less (c .before .before .before .before .loop-test .taken))
+    (λ c. fewer-left (c .before .before .before .before .loop-test .taken))
     loop-again
     (search needs)
     returns)

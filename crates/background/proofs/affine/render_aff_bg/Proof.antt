@@ -10,7 +10,8 @@ use Rattle.rgb15.specs.Colour.{rgb, transparent}
 use Rattle.signed.specs.Signed.{inRange}
 use Rattle.rows.proofs.Tabbed.{Tabbed, tabbed-none, tabbed-all}
 use Rattle.background.specs.Affine.{affineColor}
-use Rattle.regular.proofs.Lines.{colored-more, column-fits, bytes-fit, next-fits, fewer-left}
+use Rattle.rows.proofs.Columns.{column-fits, halves-fit, next-fits, fewer-left}
+use Rattle.regular.proofs.Lines.{colored-more}
 use Rattle.background.proofs.Pixels.{affineColor-is}
 use Rattle.background.proofs.affine.render_aff_bg.Statement.{statement}
 use Rattle.background.proofs.affine.render_aff_bg.Tie as tie
@@ -111,7 +112,7 @@ render-aff-bg-spec =
     (λ c. column-fits (c .before .loop-test .taken))
     transform-bg-point-requires-2
     aff-bg-color-requires
-    (λ c. bytes-fit (c .before .before .before .loop-test .taken))
+    (λ c. halves-fit (c .before .before .before .loop-test .taken))
     (λ c. c .before .before .before .loop-test .taken)
     (λ c. next-fits (c .before .before .before .loop-test .taken))
     (λ c. fewer-left (c .before .before .before .loop-test .taken))

@@ -1,7 +1,5 @@
 -- background::affine::texture_size meets its contract: 128 shifted by a size loses no bit, and the bias is a multiple of each side.
 -- Assumes nothing.
-use mathlib.Core.Path.{_≡_}
-use Prim.Native.Nat.{_*_, _%_, _^_}
 use native.Mathlib.Omega.{arith}
 use lib.Pow.{shl-exact}
 use borrow.Author.Needs.{needs}

@@ -1,7 +1,6 @@
 -- background::bitmap::bitmap_viewport meets its contract: the test of the mode is that of the two sizes.
 -- Assumes nothing.
-use mathlib.Core.Path.{refl, sym, ap}
-use mathlib.Core.Bool.{Bool, cond}
+use mathlib.Core.Path.{refl, ap}
 use borrow.Author.Tests.{eq-eqb, ne-eqb}
 use Rattle.background.proofs.bitmap.bitmap_viewport.Statement.{statement}
 use Rattle.background.proofs.bitmap.bitmap_viewport.Tie as tie

@@ -2,7 +2,6 @@
 -- Assumes nothing.
 use mathlib.Core.Path.{refl}
 use native.Mathlib.Omega.{arith}
-use borrow.Author.Needs.{needs}
 use Rattle.regs.proofs.DisplayControl.from.Statement.{statement}
 use Rattle.regs.proofs.DisplayControl.from.Tie as tie
 

@@ -3,7 +3,8 @@
 use Prim.Native.Nat.{_+_, _*_, _/_, _≤_}
 use native.Mathlib.Omega.{arith}
 use borrow.Author.Needs.{needs}
-use Rattle.sprites.proofs.Addresses.{tileSize-bound, rows-bound, tiles-bound, tileAt-is}
+use Rattle.memory.proofs.Laws.{tileSize-bound}
+use Rattle.sprites.proofs.Addresses.{rows-bound, tiles-bound, tileAt-is}
 use Rattle.sprites.proofs.attrs.ObjAttrs.tile_at.Statement.{statement}
 use Rattle.sprites.proofs.attrs.ObjAttrs.tile_at.Tie as tie
 
