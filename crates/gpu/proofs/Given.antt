@@ -17,7 +17,7 @@ use Rattle.regs.specs.Reading.{readingOf, counted}
 use Rattle.rows.proofs.Cells.{length-rowOf}
 use Rattle.entries.specs.Entry.{entryCells, shapedRow}
 use Rattle.sprites.specs.Sprite.{source}
-use Rattle.obj.specs.Put.{rowAfter}
+use Rattle.obj.specs.Put.{putSprites}
 use Rattle.obj.proofs.Shapes.{shapedRow-after}
 use Rattle.references.specs.References.{inRanges}
 use Rattle.judge.specs.Judge.{Call, callOf, outputSize, haveLengths, lineVerdict, verdict, numberOf}
@@ -144,7 +144,7 @@ module _ (c : Call) (entries output : List ℕ) where
   ready-after r left-is = rw left-is (go (enableObj (dispcnt registers)))
     where
       after : List ℕ
-      after = rowAfter (readingOf (c .reading)) (source (c .memory)) (c .line) entries
+      after = putSprites (readingOf (c .reading)) (source (c .memory)) (c .line) entries
 
       go : (on : Bool) → Ready c (cond on after entries) output
       go false = r

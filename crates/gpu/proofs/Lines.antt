@@ -20,7 +20,7 @@ use Rattle.background.specs.Background.{backgroundColor}
 use Rattle.memory.specs.Palette.{backdrop}
 use Rattle.entries.specs.Entry.{entryCells}
 use Rattle.sprites.specs.Sprite.{source}
-use Rattle.obj.specs.Put.{rowAfter}
+use Rattle.obj.specs.Put.{putSprites}
 use Rattle.sorting.specs.Ordered.{ordered}
 use Rattle.sorting.specs.Places.{places}
 use Rattle.layers.specs.Places.{placedLayers}
@@ -49,7 +49,7 @@ module _ (vram palette registers : List ℕ) (references : References) (place li
 
 module _ (c : Call) (entries : List ℕ) where
   pub entries-on : {left : List ℕ} {reading : Reading} → enableObj (dispcnt (c .memory .registers)) ≡ true
-      → reading ≡ readingOf (c .reading) → left ≡ rowAfter reading (source (c .memory)) (c .line) entries
+      → reading ≡ readingOf (c .reading) → left ≡ putSprites reading (source (c .memory)) (c .line) entries
       → left ≡ entriesAfter c entries
   unfolding entriesAfter
   entries-on on reading-is left-is = rw (on, sym reading-is) left-is

@@ -12,7 +12,7 @@ use Rattle.regs.specs.Reading.{readingOf}
 use Rattle.background.specs.Background.{backgroundColor}
 use Rattle.sprites.specs.Sprite.{source}
 use Rattle.entries.specs.Entry.{entryCells}
-use Rattle.obj.specs.Put.{rowAfter}
+use Rattle.obj.specs.Put.{putSprites}
 use Rattle.layers.specs.Layers.{backgrounds}
 use Rattle.sfx.specs.Pixel.{pixel}
 use Rattle.judge.specs.Judge.{Call}
@@ -20,7 +20,7 @@ use Rattle.judge.specs.Judge.{Call}
 -- With sprites on, the entries afterwards are what the sprites make of them; else they stay.
 unfoldable pub entriesAfter : Call → List ℕ → List ℕ
 entriesAfter c entries =
-    let put = rowAfter (readingOf (c .reading)) (source (c .memory)) (c .line) entries in
+    let put = putSprites (readingOf (c .reading)) (source (c .memory)) (c .line) entries in
     cond (enableObj (dispcnt (c .memory .registers))) put entries
 
 -- The colour of a background at a column.

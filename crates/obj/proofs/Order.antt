@@ -1,4 +1,4 @@
--- The order of pixels: the entry of a column holds the winner of all that draws put there, the first of least priority.
+-- The order of pixels: the entry of a column holds the winner of all that were put there, the first of least priority.
 -- No contract cites this file. Assumes nothing.
 use Prim.Native.Nat.{ℕ, zero, suc, _+_, _*_, _/_, _%_, _≤_, _<_}
 use native.Mathlib.Omega.{arith}
@@ -11,14 +11,10 @@ use mathlib.Core.Logic.{_⊎_, inl, inr, ⊎-elim}
 use lib.Dec.{eqb, leb}
 use borrow.Author.Tests.{leb-true, leb-false}
 use Rattle.rgb15.specs.Colour.{isTransparent}
-use Rattle.rows.specs.Cells.{cellAt}
-use Rattle.rows.proofs.Cells.{cellAt-rowOf}
 use Rattle.sprites.specs.Attrs.{sprite}
 use Rattle.sprites.specs.Sprite.{source, spriteColor, isVisible, isSemi}
-use Rattle.entries.specs.Entry.{entryCells, resetEntry, resetRow}
 use Rattle.obj.specs.Put.{passedOver, shownBy, windowed, written, putPixel, spriteStep, entryUpTo}
-use Rattle.obj.specs.Order.{Draw, Pixel, isOpaque, pixelOf, pixelsUpTo, pixelsPut}
-use Rattle.obj.specs.Order.{isBefore, Wins, Shows, Holds, none, some, entryAfter, rowsAfter}
+use Rattle.obj.specs.Order.{Draw, Pixel, isOpaque, pixelOf, pixelsUpTo, isBefore, Wins, Shows, Holds, none, some}
 use Rattle.sprites.specs.declared.attrs.ObjMode.{ObjMode}
 use Rattle.entries.specs.declared.Entry.{Entry}
 use Rattle.sprites.proofs.Decode.{priority-bound}
@@ -140,7 +136,7 @@ module _ (ps : List Pixel) (e : Entry) (i n priority color : ℕ)
           inr (ap (λ x. x .draw) same ∙ draw-is, omega (arith, ap (λ x. x .sprite) same))
       go false last = absurd (List·Memᴰ·not-nil last)
 
--- ---- the sprites of a draw, and draws one after another
+-- ---- the sprites of a draw
 
 -- An entry holds the winner of pixels that were all put earlier than sprite n of draw number i is.
 pub record Held (i n : ℕ) (ps : List Pixel) (e : Entry) : Type 0 where
@@ -173,53 +169,3 @@ module _ (column : ℕ) where
   held-sprites i d zero ps e held = rw (append-nil ps) held
   held-sprites i d (suc n) ps e held =
       rw (← append-assoc) (held-sprite i d n _ _ (held-sprites i d n ps e held))
-
-  -- Of what was put before a draw, and of what draws from number i on put, the entry holds the winner.
-  pub held-draws : (i : ℕ) (ds : List Draw) (ps : List Pixel) (e : Entry) → Held i 0 ps e
-      → Holds (ps ++ pixelsPut i ds column) (entryAfter ds column e)
-  unfolding pixelsPut entryAfter
-  held-draws i [] ps e held = rw (append-nil ps) (held .holds)
-  held-draws i (d ∷ ds) ps e held =
-      let after = held-sprites i d 128 ps e held in
-      rw (← append-assoc)
-      (held-draws (suc i) ds _ _
-      (record {
-        holds = after .holds;
-        earlier = λ p m. ⊎-elim (λ h. inl (omega arith)) (λ h. inl (omega (arith, h .0))) (after .earlier p m);
-      }))
-
-  held-reset : Held 0 0 [] resetEntry
-  held-reset =
-      record {
-        holds = none refl (record { color-is = refl; priority-is = refl; semi-is = refl });
-        earlier = λ p m. absurd (List·Memᴰ·not-nil m);
-      }
-
-  -- From the reset entry, the entry holds the winner of all that draws put, or nothing where they put nothing.
-  pub holds-draws : (ds : List Draw) → Holds (pixelsPut 0 ds column) (entryAfter ds column resetEntry)
-  holds-draws ds = held-draws 0 ds [] resetEntry held-reset
-
-  -- The same of one draw alone.
-  pub holds-draw : (d : Draw)
-      → Holds (pixelsUpTo 0 d 128 column) (entryUpTo (d .reading) (source (d .memory)) (d .line) 128 column resetEntry)
-  holds-draw d = held-sprites 0 d 128 [] resetEntry held-reset .holds
-
--- ---- the row
-
--- A column of the row after draws is what they make of its entry.
-pub cellAt-rowsAfter : (ds : List Draw) (entries : List ℕ) (column : ℕ) → column < 240
-    → cellAt entryCells (rowsAfter ds entries) column ≡ entryAfter ds column (cellAt entryCells entries column)
-unfolding rowsAfter entryAfter
-cellAt-rowsAfter [] entries column column< = refl
-cellAt-rowsAfter (d ∷ ds) entries column column< =
-    cellAt-rowsAfter ds _ column column<
-    ∙ ap (entryAfter ds column) (cellAt-rowOf entryCells _ 240 column column<)
-
--- From the reset row, every column holds the winner of all that draws put there, or nothing.
-pub holds-rows : (ds : List Draw) (column : ℕ) → column < 240
-    → Holds (pixelsPut 0 ds column) (cellAt entryCells (rowsAfter ds resetRow) column)
-holds-rows ds column column< =
-    let entry-is : cellAt entryCells (rowsAfter ds resetRow) column ≡ entryAfter ds column resetEntry
-    = cellAt-rowsAfter ds resetRow column column<
-    ∙ ap (entryAfter ds column) (cellAt-rowOf entryCells _ 240 column column<) in
-    rw entry-is (holds-draws column ds)

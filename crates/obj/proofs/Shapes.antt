@@ -18,7 +18,7 @@ use Rattle.sprites.specs.Sprite.{Source, spriteColor}
 use Rattle.sprites.specs.declared.attrs.ObjMode.{ObjMode}
 use Rattle.sprites.proofs.Clean.{Clean, clean-sprite}
 use Rattle.sprites.proofs.Decode.{priority-bound}
-use Rattle.obj.specs.Put.{passedOver, shownBy, windowed, written, putPixel, spriteStep, entryUpTo, rowAfter}
+use Rattle.obj.specs.Put.{passedOver, shownBy, windowed, written, putPixel, spriteStep, entryUpTo, putSprites}
 
 -- ---- what a pixel makes of a well-shaped entry
 
@@ -73,7 +73,7 @@ module _ (reading : Reading) (o : Source) (line column : ℕ) where
 
 -- The pass keeps a row well shaped.
 pub shapedRow-after : (reading : Reading) (o : Source) (line : ℕ) (entries : List ℕ) → shapedRow entries ≡ true
-    → shapedRow (rowAfter reading o line entries) ≡ true
+    → shapedRow (putSprites reading o line entries) ≡ true
 shapedRow-after reading o line entries shaped =
     allBelow-ext _ 240
     (λ k k<.

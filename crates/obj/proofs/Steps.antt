@@ -27,7 +27,7 @@ use Rattle.sprites.specs.Tiles.{tilesStart}
 use Rattle.sprites.specs.Sprite.{Source, source, drawn, typedColor, spriteColor}
 use Rattle.obj.specs.Skip.{NoneDrawn}
 use Rattle.entries.specs.Entry.{entryCells}
-use Rattle.obj.specs.Put.{putPixel, putRow, spriteStep, entryUpTo, rowAfter}
+use Rattle.obj.specs.Put.{putPixel, putRow, spriteStep, entryUpTo, putSprites}
 use Rattle.sprites.specs.declared.attrs.ObjAttrs.{ObjAttrs}
 use Rattle.sprites.specs.declared.attrs.ObjType.{ObjType}
 use Rattle.entries.specs.declared.Entry.{Entry}
@@ -165,10 +165,10 @@ source-is m read mapping-is start-is =
     }
 
 -- What the pass made of each column is the row after it.
-pub rowAfter-is : (reading : Reading) {o p : Source} (line : ℕ) (entries : List ℕ) {m : List ℕ} → length entries ≡ 960
+pub putSprites-is : (reading : Reading) {o p : Source} (line : ℕ) (entries : List ℕ) {m : List ℕ} → length entries ≡ 960
     → m ≡ mapRow entryCells (entryUpTo reading o line 128) 240 entries → o ≡ p
-    → m ≡ rowAfter reading p line entries
-rowAfter-is reading {o} {p} line entries size made source =
+    → m ≡ putSprites reading p line entries
+putSprites-is reading {o} {p} line entries size made source =
     made
     ∙ mapRow-all entryCells (entryUpTo reading o line 128) 240 entries size
-    ∙ ap (λ o. rowAfter reading o line entries) source
+    ∙ ap (λ o. putSprites reading o line entries) source

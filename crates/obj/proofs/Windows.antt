@@ -1,17 +1,16 @@
--- Laws of the window mark: it tells whether a window sprite had an opaque pixel, in this draw or an earlier one.
+-- Laws of the window mark: it tells whether a window sprite had an opaque pixel.
 -- No contract cites this file. Assumes nothing.
 use Prim.Native.Nat.{ℕ, zero, suc, _+_, _*_, _/_, _%_, _≤_}
 use native.Mathlib.Omega.{arith}
 use mathlib.Core.Path.{_≡_, refl, sym, ap, _∙_}
 use mathlib.Core.Bool.{Bool, true, false, not, cond, _&&_, _||_, or-true, or-false, or-assoc}
-use mathlib.Core.List.{List, [], _∷_}
 use lib.Dec.{eqb, leb}
 use Rattle.rgb15.specs.Colour.{isTransparent}
 use Rattle.sprites.specs.Attrs.{sprite}
 use Rattle.sprites.specs.Sprite.{source, isWindow}
-use Rattle.entries.specs.Entry.{windowMark, resetEntry}
+use Rattle.entries.specs.Entry.{windowMark}
 use Rattle.obj.specs.Put.{passedOver, shownBy, windowed, written, putPixel, spriteStep, entryUpTo}
-use Rattle.obj.specs.Order.{Draw, isOpaque, windowUpTo, windowPut, entryAfter}
+use Rattle.obj.specs.Order.{Draw, isOpaque, windowUpTo}
 use Rattle.sprites.specs.declared.attrs.ObjMode.{ObjMode}
 use Rattle.entries.specs.declared.Entry.{Entry}
 
@@ -58,7 +57,8 @@ module _ (column : ℕ) where
   unfolding isOpaque spriteStep
   windowMark-sprite d n e = windowMark-put _ _ e _ _ refl
 
-  windowMark-sprites : (d : Draw) (n : ℕ) (e : Entry)
+  -- The sprites of a draw set the window mark where one of them is a window sprite with an opaque pixel, and else leave it.
+  pub windowMark-sprites : (d : Draw) (n : ℕ) (e : Entry)
       → windowMark (entryUpTo (d .reading) (source (d .memory)) (d .line) n column e)
       ≡ (windowMark e || windowUpTo d n column)
   unfolding windowUpTo entryUpTo
@@ -67,16 +67,3 @@ module _ (column : ℕ) where
       windowMark-sprite d n _
       ∙ ap (λ t. t || (isWindow (sprite (d .memory .oam) n .objmode) && isOpaque d n column)) (windowMark-sprites d n e)
       ∙ or-assoc (windowMark e) (windowUpTo d n column) _
-
-  -- The mark stays set, and is set exactly if a window sprite of the draws has an opaque pixel there.
-  pub windowMark-draws : (ds : List Draw) (e : Entry)
-      → windowMark (entryAfter ds column e) ≡ (windowMark e || windowPut ds column)
-  unfolding windowPut entryAfter
-  windowMark-draws [] e = sym (or-false (windowMark e))
-  windowMark-draws (d ∷ ds) e =
-      windowMark-draws ds _
-      ∙ ap (λ t. t || windowPut ds column) (windowMark-sprites d 128 e)
-      ∙ or-assoc (windowMark e) (windowUpTo d 128 column) (windowPut ds column)
-
-  pub windowMark-reset : (ds : List Draw) → windowMark (entryAfter ds column resetEntry) ≡ windowPut ds column
-  windowMark-reset ds = windowMark-draws ds resetEntry

@@ -1,5 +1,5 @@
--- Which pixel a column's entry holds after draws on the same row (01, "Sprites", "Errors that look right": ties, window
--- marks; GBATEK, "LCD OBJ - OAM Attributes"). Assumes nothing.
+-- The pixels that the sprites of a draw put at a column, and which of several an entry holds (01, "Sprites", "Errors that
+-- look right": ties, window marks; GBATEK, "LCD OBJ - OAM Attributes"). Assumes nothing.
 use Prim.Native.Nat.{ℕ, zero, suc}
 use mathlib.Core.Path.{_≡_}
 use mathlib.Core.Bool.{Bool, true, false, not, cond, _&&_, _||_}
@@ -12,7 +12,6 @@ use Rattle.regs.specs.declared.reading.Reading.{Reading}
 use Rattle.sprites.specs.Attrs.{sprite}
 use Rattle.sprites.specs.Sprite.{source, isVisible, isSemi, isWindow, spriteColor}
 use Rattle.entries.specs.Entry.{semiMark}
-use Rattle.obj.specs.Put.{entryUpTo, rowAfter}
 use Rattle.entries.specs.declared.Entry.{Entry}
 
 -- A draw, as far as its sprites go.
@@ -47,21 +46,11 @@ pixelsUpTo i d (suc n) column =
     pixelsUpTo i d n column
     ++ cond (isVisible (sprite (d .memory .oam) n .objmode) && isOpaque d n column) (pixelOf i d n column ∷ []) []
 
--- The pixels that draws put at a column, one draw after another, the first being number i.
-unfoldable pub pixelsPut : ℕ → List Draw → ℕ → List Pixel
-pixelsPut i [] column = []
-pixelsPut i (d ∷ ds) column = pixelsUpTo i d 128 column ++ pixelsPut (suc i) ds column
-
 -- Whether some window sprite among the first n of a draw has an opaque pixel at a column.
 unfoldable pub windowUpTo : Draw → ℕ → ℕ → Bool
 windowUpTo d zero column = false
 windowUpTo d (suc n) column =
     windowUpTo d n column || (isWindow (sprite (d .memory .oam) n .objmode) && isOpaque d n column)
-
--- Whether some window sprite of the draws has an opaque pixel at a column.
-unfoldable pub windowPut : List Draw → ℕ → Bool
-windowPut [] column = false
-windowPut (d ∷ ds) column = windowUpTo d 128 column || windowPut ds column
 
 -- Whether pixel p comes before q: by priority, then by draw, then by sprite number.
 unfoldable pub isBefore : Pixel → Pixel → Bool
@@ -91,14 +80,3 @@ pub record Blank (e : Entry) : Type 0 where
 pub data Holds (ps : List Pixel) (e : Entry) : Type 0 where
   none : ps ≡ [] → Blank e → Holds ps e
   some : (w : Pixel) → Wins ps w → Shows w e → Holds ps e
-
--- What draws, one after another, make of the entry of a column.
-unfoldable pub entryAfter : List Draw → ℕ → Entry → Entry
-entryAfter [] column e = e
-entryAfter (d ∷ ds) column e =
-    entryAfter ds column (entryUpTo (d .reading) (source (d .memory)) (d .line) 128 column e)
-
--- What draws, one after another, make of a row of entries.
-unfoldable pub rowsAfter : List Draw → List ℕ → List ℕ
-rowsAfter [] entries = entries
-rowsAfter (d ∷ ds) entries = rowsAfter ds (rowAfter (d .reading) (source (d .memory)) (d .line) entries)

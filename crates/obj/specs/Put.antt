@@ -64,7 +64,7 @@ unfoldable pub entryUpTo : Reading → Source → ℕ → ℕ → ℕ → Entry 
 entryUpTo reading o line zero column e = e
 entryUpTo reading o line (suc n) column e = spriteStep reading o line n column (entryUpTo reading o line n column e)
 
--- What the 128 sprites make of a row of entries.
-abbrev pub rowAfter : Reading → Source → ℕ → List ℕ → List ℕ
-rowAfter reading o line entries =
+-- The row with the pixels of the 128 sprites put in its entries.
+abbrev pub putSprites : Reading → Source → ℕ → List ℕ → List ℕ
+putSprites reading o line entries =
     rowOf entryCells (λ column. entryUpTo reading o line 128 column (cellAt entryCells entries column)) 240

@@ -17,7 +17,7 @@ ghost use Rattle.sprites.specs.Color.{normalColor, colorAt, affineColor};
 ghost use Rattle.sprites.specs.Sprite.{source, typedColor};
 ghost use Rattle.texels.specs.Turn.{pointAt, Ranged};
 ghost use Rattle.obj.specs.Put.{passedOver, shownBy, windowed, written, putPixel};
-ghost use Rattle.obj.specs.Put.{putColumn, putRow, spriteStep, rowAfter};
+ghost use Rattle.obj.specs.Put.{putColumn, putRow, spriteStep, putSprites};
 
 mod next;
 
@@ -385,7 +385,7 @@ pub fn render_objs(
         × (line < 160) ⌝ }
     ensures { λ _.
         ⌜ now (entries .exit)
-        ≡ rowAfter reading
+        ≡ putSprites reading
         (source
         (record {
           vram = now (vram .entry);

@@ -10,11 +10,10 @@ use Rattle.rows.proofs.Cells.{cellAt-rowOf}
 use Rattle.sprites.specs.Sprite.{source}
 use Rattle.entries.specs.Entry.{entryCells, windowMark, resetEntry}
 use Rattle.obj.specs.Put.{entryUpTo}
-use Rattle.obj.specs.Order as sprites
 use Rattle.obj.specs.Order.{Draw, Pixel, Holds, none, pixelsUpTo, windowUpTo}
 use Rattle.entries.specs.declared.Entry.{Entry}
 use Rattle.obj.proofs.Order.{Held, held-sprites}
-use Rattle.obj.proofs.Windows.{windowMark-draws}
+use Rattle.obj.proofs.Windows.{windowMark-sprites}
 use Rattle.order.specs.Draws.{Attempt, rowLeft, rowAfter, putsPixels, spritesOf, pixelsPut, windowPut}
 use Rattle.order.proofs.Rows.{spriteRow, rowLeft-is}
 
@@ -33,14 +32,6 @@ held-reset =
       holds = none refl (record { color-is = refl; priority-is = refl; semi-is = refl });
       earlier = λ p m. absurd (List·Memᴰ·not-nil m);
     }
-
--- The sprites of a draw set the window mark where one of them is a window sprite with an opaque pixel, and else leave it.
-window-sprites : (column : ℕ) (d : Draw) (e : Entry)
-    → windowMark (entryUpTo (d .reading) (source (d .memory)) (d .line) 128 column e)
-    ≡ (windowMark e || windowUpTo d 128 column)
-unfolding sprites.windowPut sprites.entryAfter
-window-sprites column d e =
-    windowMark-draws column (d ∷ []) e ∙ ap (λ t. windowMark e || t) (or-false (windowUpTo d 128 column))
 
 module _ (column : ℕ) (column< : column < 240) where
   abbrev entryOf : List ℕ → Entry
@@ -76,7 +67,7 @@ module _ (column : ℕ) (column< : column < 240) where
           ≡ (windowMark (entryOf row) || (t && windowUpTo (spritesOf a) 128 column))
       go true =
           ap windowMark (cellAt-rowOf entryCells _ 240 column column<)
-          ∙ window-sprites column (spritesOf a) (entryOf row)
+          ∙ windowMark-sprites column (spritesOf a) 128 (entryOf row)
       go false = sym (or-false (windowMark (entryOf row)))
 
   -- The mark stays set, and is set exactly if some draw puts an opaque window-sprite pixel there.

@@ -13,7 +13,7 @@ use Rattle.regs.specs.Display.{enableObj, forceBlank}
 use Rattle.regs.specs.Reading.{readingOf}
 use Rattle.sprites.specs.Sprite.{source}
 use Rattle.entries.specs.Entry.{entryCells, shapedRow}
-use Rattle.obj.specs.Put as sprites
+use Rattle.obj.specs.Put.{putSprites}
 use Rattle.obj.proofs.Shapes.{shapedRow-after}
 use Rattle.judge.specs.Judge.{numberOf}
 use Rattle.gpu.specs.Line.{entriesAfter}
@@ -23,7 +23,7 @@ use Rattle.order.proofs.Verdicts.{verdict-cases}
 
 -- What a draw's sprites make of a row.
 abbrev pub spriteRow : Attempt → List ℕ → List ℕ
-spriteRow a row = sprites.rowAfter (readingOf (a .call .reading)) (source (a .call .memory)) (a .call .line) row
+spriteRow a row = putSprites (readingOf (a .call .reading)) (source (a .call .memory)) (a .call .line) row
 
 module _ (a : Attempt) (row : List ℕ) where
   abbrev control : ℕ

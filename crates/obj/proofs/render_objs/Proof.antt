@@ -4,7 +4,7 @@ use Prim.Native.Nat.{_-_}
 use native.Mathlib.Omega.{arith}
 use Rattle.rows.proofs.Passed.{composed-all}
 use Rattle.entries.specs.Entry.{entryCells}
-use Rattle.obj.proofs.Steps.{SpritesUpTo, sprites-first, sprites-next, source-is, rowAfter-is}
+use Rattle.obj.proofs.Steps.{SpritesUpTo, sprites-first, sprites-next, source-is, putSprites-is}
 use Rattle.obj.proofs.render_objs.Statement.{statement}
 use Rattle.obj.proofs.render_objs.Tie as tie
 
@@ -32,7 +32,7 @@ returns : tie.Need-returns Inv-loop μ-loop
 returns c =
     let made = c .before .before .before in
     let at = made .before .before .before .before .before .before .before .before .args in
-    rowAfter-is (at .reading) (at .line) (at .entries .now) (omega arith)
+    putSprites-is (at .reading) (at .line) (at .entries .now) (omega arith)
     (composed-all entryCells (c .before .loop .inv) (omega arith))
     (source-is _ (made .before .before .read-dispcnt .ensures) (made .before .obj-mapping .ensures)
     (made .obj-tiles-start .ensures))
