@@ -1,18 +1,18 @@
 -- Lines of backgrounds and entries, by what tests find. No contract cites this file. Assumes nothing.
-use Prim.Native.Nat.{ℕ, _≤_, _<_}
-use mathlib.Core.Path.{_≡_, sym, _∙_}
-use mathlib.Core.Bool.{true, false}
-use mathlib.Core.List.{List, replicate}
-use lib.Dec.{ltb}
-use borrow.Author.Tests.{lt-ltb, le-ltb}
+use Prim.Native.Nat.{ℕ, zero, suc, _<_}
+use mathlib.Core.Path.{_≡_, refl, sym, ap, ap₂, _∙_}
+use mathlib.Core.Bool.{Bool, true, false, cond, false≢true, and-eq-true-iff}
+use mathlib.Core.List.{List, [], _∷_, _++_, map, map-append, replicate}
+use lib.ListN.{getD}
 use Rattle.rgb15.specs.Colour.{rgb, transparent}
 use Rattle.rgb15.specs.declared.Rgb15.{Rgb15}
 use Rattle.rows.specs.Tab.{tab}
 use Rattle.rows.specs.Cells.{cellAt, rowOf}
 use Rattle.rows.specs.Words.{wordCells}
-use Rattle.rows.proofs.Tab.{tab-replicate}
+use Rattle.rows.proofs.Cells.{rowOf-cong}
+use Rattle.rows.proofs.Tab.{getD-of-tab, tab-replicate}
 use Rattle.regs.specs.Registers.{dispcnt}
-use Rattle.regs.specs.Display.{enableObj}
+use Rattle.regs.specs.Display.{enableBg, enableObj}
 use Rattle.regs.specs.Reading.{readingOf}
 use Rattle.regs.specs.declared.reading.Reading.{Reading}
 use Rattle.references.specs.References.{References}
@@ -21,29 +21,28 @@ use Rattle.memory.specs.Palette.{backdrop}
 use Rattle.entries.specs.Entry.{entryCells}
 use Rattle.sprites.specs.Sprite.{source}
 use Rattle.obj.specs.Put.{putSprites}
-use Rattle.sorting.specs.Ordered.{ordered}
-use Rattle.sorting.specs.Places.{places}
-use Rattle.layers.specs.Places.{placedLayers}
-use Rattle.layers.proofs.Places.{Lined}
+use Rattle.sorting.specs.Ordered.{keep, stands, standing, ordered}
+use Rattle.layers.specs.Layers.{Layer, background, backgrounds}
+use Rattle.layers.specs.Places.{lineColor}
+use Rattle.sfx.specs.Lines.{bgLine}
 use Rattle.sfx.specs.Pixel.{pixel}
-use Rattle.sfx.proofs.Columns.{scanline-ordered}
 use Rattle.judge.specs.Judge.{Call}
 use Rattle.gpu.specs.Line.{entriesAfter, colorOf, pixelAt, lineAfter}
-use Rattle.gpu.specs.Ready.{placeColor}
+use Rattle.gpu.specs.Ready.{colorIfOn}
 
--- ---- the line of a place
+-- ---- the line of a background
 
-module _ (vram palette registers : List ℕ) (references : References) (place line : ℕ) where
-  pub placeLine-on : {r : List Rgb15} → place < 4
-      → r ≡ tab (λ column. rgb (backgroundColor vram palette registers references place column line)) 240
-      → r ≡ tab (λ column. rgb (placeColor vram palette registers references place column line)) 240
-  unfolding placeColor
-  placeLine-on h r-is = rw (lt-ltb place 4 h) r-is
+module _ (vram palette registers : List ℕ) (references : References) (bg line : ℕ) {on : Bool} where
+  pub line-on : {r : List Rgb15} → on ≡ true
+      → r ≡ tab (λ column. rgb (backgroundColor vram palette registers references bg column line)) 240
+      → r ≡ tab (λ column. rgb (colorIfOn on vram palette registers references bg column line)) 240
+  unfolding colorIfOn
+  line-on is r-is = rw is r-is
 
-  pub placeLine-none : 4 ≤ place
-      → replicate 240 (rgb transparent) ≡ tab (λ column. rgb (placeColor vram palette registers references place column line)) 240
-  unfolding placeColor
-  placeLine-none h = rw (le-ltb place 4 h) (tab-replicate (rgb transparent) 240)
+  pub line-off : on ≡ false
+      → replicate 240 (rgb transparent) ≡ tab (λ column. rgb (colorIfOn on vram palette registers references bg column line)) 240
+  unfolding colorIfOn
+  line-off is = rw is (tab-replicate (rgb transparent) 240)
 
 -- ---- the entries
 
@@ -58,43 +57,114 @@ module _ (c : Call) (entries : List ℕ) where
   unfolding entriesAfter
   entries-off off = rw off
 
-  -- ---- the line
+-- ---- the backgrounds that are on
 
-  -- The places' lines, composed, are the line.
-  pub line-ordered : {left at : List ℕ} {line0 line1 line2 line3 : List Rgb15} {reading : Reading}
-      → reading ≡ readingOf (c .reading) → at ≡ places (ordered (c .memory .registers))
-      → Lined (colorOf c) at line0 line1 line2 line3
-      → left
-      ≡ rowOf wordCells
+-- Whether a background is on.
+abbrev isOn : List ℕ → ℕ → Bool
+isOn registers bg = getD (enableBg (dispcnt registers)) bg false
+
+-- Two functions that agree on those that the test picks make the same of them.
+map-keep : {A B : Type 0} (f g : A → B) (test : A → Bool) → ((a : A) → test a ≡ true → f a ≡ g a)
+    → (l : List A) → map f (keep test l) ≡ map g (keep test l)
+unfolding keep
+map-keep f g test same [] = refl
+map-keep {A} f g test same (a ∷ rest) = go (test a) (same a) (map-keep f g test same rest)
+  where
+    kept : List A
+    kept = keep test rest
+
+    go : (t : Bool) → (t ≡ true → f a ≡ g a) → map f kept ≡ map g kept
+        → map f (cond t (a ∷ kept) kept) ≡ map g (cond t (a ∷ kept) kept)
+    go true first others = ap₂ _∷_ (first refl) others
+    go false first others = others
+
+module _ (registers : List ℕ) (f g : ℕ → ℕ) (same : (bg : ℕ) → isOn registers bg ≡ true → f bg ≡ g bg) where
+  layerBy : (ℕ → ℕ) → ℕ → Layer
+  layerBy color bg = background registers bg (color bg)
+
+  map-standing : (p : ℕ) → map (layerBy f) (standing registers p) ≡ map (layerBy g) (standing registers p)
+  unfolding stands layerBy
+  map-standing p =
+      map-keep (layerBy f) (layerBy g) (stands registers p)
+      (λ bg t. ap (background registers bg) (same bg (and-eq-true-iff (isOn registers bg) _ .0 t .0)))
+      (0 ∷ 1 ∷ 2 ∷ 3 ∷ [])
+
+  map-more : (l : List ℕ) (p : ℕ) → map (layerBy f) l ≡ map (layerBy g) l
+      → map (layerBy f) (l ++ standing registers p) ≡ map (layerBy g) (l ++ standing registers p)
+  map-more l p l-is =
+      map-append (layerBy f) l (standing registers p)
+      ∙ ap₂ _++_ l-is (map-standing p)
+      ∙ sym (map-append (layerBy g) l (standing registers p))
+
+  -- Only backgrounds that are on stand in the order, so the colours of the others don't matter.
+  backgrounds-on : backgrounds registers f ≡ backgrounds registers g
+  unfolding ordered layerBy
+  backgrounds-on =
+      let at = standing registers in
+      map-more (at 0 ++ at 1 ++ at 2) 3 (map-more (at 0 ++ at 1) 2 (map-more (at 0) 1 (map-standing 0)))
+
+-- ---- the line
+
+module _ (c : Call) where
+  -- The line of a background, as code draws it.
+  unfoldable pub drawnLine : ℕ → List Rgb15
+  drawnLine bg =
+      tab
       (λ column.
-      pixel reading (c .memory .registers) (backdrop (c .memory .palette))
-      (placedLayers (c .memory .registers) at line0 line1 line2 line3 column) (cellAt entryCells entries column) column (c .line))
+      rgb
+      (colorIfOn (isOn (c .memory .registers) bg) (c .memory .vram) (c .memory .palette) (c .memory .registers) (c .references)
+      bg column (c .line)))
       240
-      → left ≡ lineAfter c entries
-  unfolding lineAfter pixelAt
-  line-ordered reading-is at-is lined left-is =
-      left-is
-      ∙ scanline-ordered (c .memory .registers) _ (colorOf c) _ _ _ _ at-is lined _ (backdrop (c .memory .palette)) (c .line) entries
-      ∙ rw reading-is
 
--- A place's line is that of its background.
-pub lined-place : (c : Call) (place : ℕ) {line : List Rgb15}
-    → line
-    ≡ tab
-    (λ column.
-    rgb (placeColor (c .memory .vram) (c .memory .palette) (c .memory .registers) (c .references) place column (c .line)))
-    240
-    → place < 4 → line ≡ tab (λ column. rgb (colorOf c place column)) 240
-unfolding placeColor
-lined-place c place line-is h = rw (lt-ltb place 4 h) at line-is
+  -- A line drawn by the switches that were read, its reference numbers given as equal ones.
+  pub drawnLine-is : {on : List Bool} {r : References} {line : List Rgb15} (bg : ℕ)
+      → on ≡ enableBg (dispcnt (c .memory .registers)) → r ≡ c .references
+      → line
+      ≡ tab
+      (λ column.
+      rgb
+      (colorIfOn (getD on bg false) (c .memory .vram) (c .memory .palette) (c .memory .registers) r bg column (c .line)))
+      240
+      → line ≡ drawnLine bg
+  unfolding drawnLine
+  drawnLine-is bg on-is r-is line-is = rw (on-is, r-is) at line-is
 
--- The same, its reference numbers given as equal ones.
-pub placed-same : (c : Call) {r : References} → r ≡ c .references → (place : ℕ) {line : List Rgb15}
-    → line
-    ≡ tab (λ column. rgb (placeColor (c .memory .vram) (c .memory .palette) (c .memory .registers) r place column (c .line))) 240
-    → line
-    ≡ tab
-    (λ column.
-    rgb (placeColor (c .memory .vram) (c .memory .palette) (c .memory .registers) (c .references) place column (c .line)))
-    240
-placed-same c same place line-is = rw same at line-is
+  drawnLine-on : (bg : ℕ) {line : List Rgb15} → line ≡ drawnLine bg → isOn (c .memory .registers) bg ≡ true
+      → (column : ℕ) → column < 240 → lineColor line column ≡ colorOf c bg column
+  unfolding drawnLine colorIfOn
+  drawnLine-on bg line-is on column column< =
+      ap (λ (a : Rgb15). a .0) (getD-of-tab _ 240 column (rgb 0) line-is column<)
+      ∙ rw on
+
+  module _ {line0 line1 line2 line3 : List Rgb15} (line0-is : line0 ≡ drawnLine 0) (line1-is : line1 ≡ drawnLine 1)
+      (line2-is : line2 ≡ drawnLine 2) (line3-is : line3 ≡ drawnLine 3) where
+    bgLine-on : (column : ℕ) → column < 240 → (bg : ℕ) → isOn (c .memory .registers) bg ≡ true
+        → lineColor (bgLine line0 line1 line2 line3 bg) column ≡ colorOf c bg column
+    unfolding bgLine
+    bgLine-on column column< zero on = drawnLine-on 0 line0-is on column column<
+    bgLine-on column column< (suc zero) on = drawnLine-on 1 line1-is on column column<
+    bgLine-on column column< (suc (suc zero)) on = drawnLine-on 2 line2-is on column column<
+    bgLine-on column column< (suc (suc (suc zero))) on = drawnLine-on 3 line3-is on column column<
+    bgLine-on column column< (suc (suc (suc (suc bg)))) on = absurd (false≢true on)
+
+    -- The lines, composed, are the line.
+    pub line-composed : {left : List ℕ} {reading : Reading} (entries : List ℕ)
+        → reading ≡ readingOf (c .reading)
+        → left
+        ≡ rowOf wordCells
+        (λ column.
+        pixel reading (c .memory .registers) (backdrop (c .memory .palette))
+        (backgrounds (c .memory .registers) (λ bg. lineColor (bgLine line0 line1 line2 line3 bg) column))
+        (cellAt entryCells entries column) column (c .line))
+        240
+        → left ≡ lineAfter c entries
+    unfolding lineAfter pixelAt
+    line-composed {left} {reading} entries reading-is left-is =
+        left-is
+        ∙ rowOf-cong wordCells _ _ 240
+        (λ column column<.
+        ap
+        (λ bgs.
+        pixel reading (c .memory .registers) (backdrop (c .memory .palette)) bgs (cellAt entryCells entries column) column (c .line))
+        (backgrounds-on (c .memory .registers) _ _ (bgLine-on column column<)))
+        ∙ rw reading-is

@@ -2,9 +2,8 @@
 -- file. Assumes nothing.
 use Prim.Native.Nat.{ℕ, _≤_, _<_}
 use mathlib.Core.Path.{_≡_}
-use mathlib.Core.Bool.{true, cond}
+use mathlib.Core.Bool.{Bool, true, cond}
 use mathlib.Core.List.{List}
-use lib.Dec.{ltb}
 use Rattle.rgb15.specs.Colour.{transparent}
 use Rattle.regs.specs.Registers.{dispcnt, bldy}
 use Rattle.regs.specs.Display.{mode}
@@ -25,7 +24,7 @@ pub record Ready (c : Call) (entries output : List ℕ) : Type 0 where
   pub ranges : inRanges (c .references) ≡ true
   pub shaped : shapedRow entries ≡ true
 
--- The colour at a column of the background in a place; a place of 4 has none and is transparent.
-unfoldable pub placeColor : List ℕ → List ℕ → List ℕ → References → ℕ → ℕ → ℕ → ℕ
-placeColor vram palette registers references place column line =
-    cond (ltb place 4) (backgroundColor vram palette registers references place column line) transparent
+-- The colour of a background at a column, if it is on; else it is transparent.
+unfoldable pub colorIfOn : Bool → List ℕ → List ℕ → List ℕ → References → ℕ → ℕ → ℕ → ℕ
+colorIfOn on vram palette registers references bg column line =
+    cond on (backgroundColor vram palette registers references bg column line) transparent

@@ -2,7 +2,7 @@
 ghost use mathlib.Core.Path.{_≡_};
 ghost use mathlib.Core.Bool.{true};
 ghost use lib.ListN.{length};
-ghost use Rattle.memory.specs.Sizes.{registersSize};
+ghost use Rattle.memory.specs.Sizes.{registersSize, outputSize};
 ghost use Prim.Native.Nat.{_<_};
 ghost use Rattle.rgb15.specs.Colour.{rgb};
 ghost use Rattle.rows.specs.Tab.{tab};
@@ -10,9 +10,9 @@ ghost use Rattle.regs.specs.Display.{mode};
 ghost use Rattle.regs.specs.Registers.{dispcnt};
 ghost use Rattle.regular.specs.Lent.{Lent};
 ghost use Rattle.references.specs.References.{inRanges};
-ghost use Rattle.judge.specs.Judge.{outputSize, callOf};
+ghost use Rattle.judge.specs.Judge.{callOf};
 ghost use Rattle.gpu.specs.Line.{entriesAfter, lineAfter, blankLine};
-ghost use Rattle.gpu.specs.Ready.{Ready, placeColor};
+ghost use Rattle.gpu.specs.Ready.{Ready, colorIfOn};
 ghost use Rattle.gpu.specs.Draw.{Draws};
 use background::render_bg;
 use judge::Verdict;
@@ -24,13 +24,12 @@ use regs::iodev::read_dispcnt;
 use rgb15::Rgb15;
 use rows::put_word;
 use sfx::finalize_scanline;
-use sorting::sort_backgrounds;
 
 // What forced blank shows.
 const BLANK: u32 = 0xf8f8f8;
 
-// The line of the background in a place; a place of 4 has none.
-fn render_place(
+// The line of a background if it is on, else a transparent one, which the order passes over.
+fn bg_line(
     vram: &[u8],
     palette: &[u8],
     registers: &[u8],
@@ -38,31 +37,33 @@ fn render_place(
     y2: i32,
     x3: i32,
     y3: i32,
-    place: usize,
+    on: bool,
+    bg: usize,
     line: usize,
 ) -> [Rgb15; 240]
     requires { ⌜ Lent (now vram) (now palette)
         × (length (now registers) ≡ registersSize)
         × (mode (dispcnt (now registers)) < 6)
         × (inRanges (record { x2 = x2; y2 = y2; x3 = x3; y3 = y3 }) ≡ true)
+        × (bg < 4)
         × (line < 160) ⌝ }
     ensures { λ r.
         ⌜ r
         ≡ tab
         (λ column.
         rgb
-        (placeColor (now (vram .entry)) (now (palette .entry)) (now (registers .entry))
-        (record { x2 = x2; y2 = y2; x3 = x3; y3 = y3 }) place column line))
+        (colorIfOn on (now (vram .entry)) (now (palette .entry)) (now (registers .entry))
+        (record { x2 = x2; y2 = y2; x3 = x3; y3 = y3 }) bg column line))
         240 ⌝ }
 {
-    if place < 4 {
-        render_bg(vram, palette, registers, x2, y2, x3, y3, place, line)
+    if on {
+        render_bg(vram, palette, registers, x2, y2, x3, y3, bg, line)
     } else {
         [Rgb15::TRANSPARENT; 240]
     }
 }
 
-// The backgrounds, each straight into its place, and the line composed of them and the entries.
+// The lines of backgrounds 0 to 3, and the line composed of them and the entries.
 fn render_line(
     reading: u32,
     line: u32,
@@ -85,11 +86,11 @@ fn render_line(
         (now (entries .entry)) ⌝ }
 {
     let y = line as usize;
-    let places = sort_backgrounds(read_dispcnt(registers), registers);
-    let line0 = render_place(vram, palette, registers, x2, y2, x3, y3, places[0], y);
-    let line1 = render_place(vram, palette, registers, x2, y2, x3, y3, places[1], y);
-    let line2 = render_place(vram, palette, registers, x2, y2, x3, y3, places[2], y);
-    let line3 = render_place(vram, palette, registers, x2, y2, x3, y3, places[3], y);
+    let on = read_dispcnt(registers).enable_bg;
+    let line0 = bg_line(vram, palette, registers, x2, y2, x3, y3, on[0], 0, y);
+    let line1 = bg_line(vram, palette, registers, x2, y2, x3, y3, on[1], 1, y);
+    let line2 = bg_line(vram, palette, registers, x2, y2, x3, y3, on[2], 2, y);
+    let line3 = bg_line(vram, palette, registers, x2, y2, x3, y3, on[3], 3, y);
     finalize_scanline(
         output,
         entries,
@@ -97,7 +98,6 @@ fn render_line(
         registers,
         Reading::from(reading),
         y,
-        places,
         line0,
         line1,
         line2,

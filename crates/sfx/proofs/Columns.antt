@@ -26,12 +26,12 @@ use Rattle.layers.specs.Places.{lineColor, placedLayers}
 use Rattle.layers.specs.Words.{objectTag, regionWord, columnRegion, LineLayersOf}
 use Rattle.layers.specs.declared.layer.LineLayers.{LineLayers}
 use Rattle.layers.proofs.Columns.{placedColors, column-pair, region-bits}
-use Rattle.layers.proofs.Places.{Lined, placedLayers-ordered}
 use Rattle.effects.specs.Words.{WeightsOf}
 use Rattle.effects.specs.declared.Weights.{Weights}
 use Rattle.effects.proofs.Colors.{pair-color}
 use Rattle.sfx.specs.Pixel.{caseIn, caseOf, caseColor, pixel}
 use Rattle.sfx.specs.Words.{columnColor, atColumn}
+use Rattle.sfx.proofs.Lines.{placedLayers-lines}
 
 -- ---- a column's pixel
 
@@ -57,67 +57,55 @@ column-color palette registers at line-is a b c d e reading w-is kind =
 
 -- ---- a line
 
--- The row of a line, by its regions, its layers, its weights, its entries' tags and colours, and the pixels made of them.
-module _ (reading : Reading) (palette registers entries at : List ℕ) (line : ℕ) (line0 line1 line2 line3 : List Rgb15) where
+-- The row of a line, by its places, its regions, its layers, its weights, its entries' tags and colours, the line of each place
+-- and the pixels made of them.
+module _ (reading : Reading) (palette registers entries at : List ℕ) (line : ℕ) where
   -- The colour of a column, as its rows give it.
-  pixel-is : {regions tags objects : List ℕ} {l : LineLayers} {w : Weights} (column : ℕ) → column < 240
+  pixel-is : {regions tags objects : List ℕ} {l : LineLayers} {w : Weights} (first second third fourth : List Rgb15)
+      → (column : ℕ) → column < 240
       → regions ≡ tab (columnRegion reading registers entries at line) 240
       → LineLayersOf palette registers at l
       → WeightsOf reading registers w
       → tags ≡ tab (λ k. objectTag (l .object) (cellAt entryCells entries k)) 240
       → objects ≡ tab (λ k. cellAt entryCells entries k .color .0) 240
-      → toRgb24 (atColumn (columnColor l w) regions tags objects line0 line1 line2 line3 column .0)
-      ≡ pixel reading registers (backdrop palette) (placedLayers registers at line0 line1 line2 line3 column)
+      → toRgb24 (atColumn (columnColor l w) regions tags objects first second third fourth column .0)
+      ≡ pixel reading registers (backdrop palette) (placedLayers registers at first second third fourth column)
       (cellAt entryCells entries column) column line
   unfolding pixel caseOf placedLayers placedColors atColumn
-  pixel-is column lt regions-is l-is w-is tags-are objects-are =
+  pixel-is first second third fourth column lt regions-is l-is w-is tags-are objects-are =
       rw (
         getD-of-tab _ 240 column 0 regions-is lt,
         getD-of-tab _ 240 column 0 tags-are lt,
         getD-of-tab _ 240 column 0 objects-are lt,
       )
       (column-color palette registers at l-is
-      (lineColor line0 column) (lineColor line1 column) (lineColor line2 column) (lineColor line3 column)
+      (lineColor first column) (lineColor second column) (lineColor third column) (lineColor fourth column)
       (cellAt entryCells entries column) reading w-is (regionAt reading registers entries column line))
 
-  pub scanline-is : {regions tags objects pixels out : List ℕ} {colors : List Rgb15} {l : LineLayers} {w : Weights}
+  pub scanline-is : (lineOf : ℕ → List Rgb15) {regions tags objects pixels out : List ℕ} {l : LineLayers} {w : Weights}
+      {first second third fourth colors : List Rgb15}
+      → at ≡ places (ordered registers)
       → regions ≡ tab (columnRegion reading registers entries at line) 240
       → LineLayersOf palette registers at l
       → WeightsOf reading registers w
       → tags ≡ tab (λ column. objectTag (l .object) (cellAt entryCells entries column)) 240
       → objects ≡ tab (λ column. cellAt entryCells entries column .color .0) 240
-      → colors ≡ tab (atColumn (columnColor l w) regions tags objects line0 line1 line2 line3) 240
+      → first ≡ lineOf (getD at 0 0) → second ≡ lineOf (getD at 1 0) → third ≡ lineOf (getD at 2 0) → fourth ≡ lineOf (getD at 3 0)
+      → colors ≡ tab (atColumn (columnColor l w) regions tags objects first second third fourth) 240
       → pixels ≡ tab (λ column. toRgb24 (lineColor colors column)) 240
       → out ≡ rowOf wordCells (λ column. getD pixels column 0) 240
       → out ≡ rowOf wordCells
       (λ column.
-      pixel reading registers (backdrop palette) (placedLayers registers at line0 line1 line2 line3 column)
+      pixel reading registers (backdrop palette) (backgrounds registers (λ bg. lineColor (lineOf bg) column))
       (cellAt entryCells entries column) column line)
       240
-  scanline-is regions-is l-is w-is tags-are objects-are colors-are pixels-are out-is =
+  scanline-is lineOf at-is regions-is l-is w-is tags-are objects-are first-is second-is third-is fourth-is colors-are pixels-are
+      out-is =
       out-is
       ∙ rowOf-cong wordCells _ _ 240
       (λ column lt.
       getD-of-tab _ 240 column 0 pixels-are lt
       ∙ ap (λ (c : Rgb15). toRgb24 (c .0)) (getD-of-tab _ 240 column (rgb 0) colors-are lt)
-      ∙ pixel-is column lt regions-is l-is w-is tags-are objects-are)
-
--- For callers: the row of a line is that of its backgrounds in their order.
-pub scanline-ordered : (registers at : List ℕ) (color : ℕ → ℕ → ℕ) (line0 line1 line2 line3 : List Rgb15)
-    → at ≡ places (ordered registers) → Lined color at line0 line1 line2 line3
-    → (reading : Reading) (back line : ℕ) (entries : List ℕ)
-    → rowOf wordCells
-    (λ column.
-    pixel reading registers back (placedLayers registers at line0 line1 line2 line3 column)
-    (cellAt entryCells entries column) column line)
-    240
-    ≡ rowOf wordCells
-    (λ column.
-    pixel reading registers back (backgrounds registers (λ bg. color bg column))
-    (cellAt entryCells entries column) column line)
-    240
-scanline-ordered registers at color line0 line1 line2 line3 at-is lined reading back line entries =
-    rowOf-cong wordCells _ _ 240
-    (λ column column<.
-    ap (λ bgs. pixel reading registers back bgs (cellAt entryCells entries column) column line)
-    (placedLayers-ordered registers at color line0 line1 line2 line3 at-is lined column column<))
+      ∙ pixel-is _ _ _ _ column lt regions-is l-is w-is tags-are objects-are
+      ∙ ap (λ bgs. pixel reading registers (backdrop palette) bgs (cellAt entryCells entries column) column line)
+      (placedLayers-lines registers at lineOf at-is first-is second-is third-is fourth-is column lt))

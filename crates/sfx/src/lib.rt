@@ -12,9 +12,11 @@ ghost use Rattle.memory.specs.Sizes.{paletteRamSize, registersSize};
 ghost use Rattle.regs.specs.Registers.{bldy};
 ghost use Rattle.regs.specs.Reading.{counted};
 ghost use Rattle.entries.specs.Entry.{entriesSize, entryCells};
-ghost use Rattle.layers.specs.Places.{lineColor, placedLayers};
+ghost use Rattle.layers.specs.Layers.{backgrounds};
+ghost use Rattle.layers.specs.Places.{lineColor};
 ghost use Rattle.layers.specs.Words.{Unmarked, objectTag};
 ghost use Rattle.effects.specs.Words.{Weighed};
+ghost use Rattle.sfx.specs.Lines.{bgLine};
 ghost use Rattle.sfx.specs.Pixel.{pixel};
 ghost use Rattle.sfx.specs.Words.{columnColor, topColor, atColumn};
 use effects::Weights;
@@ -31,8 +33,10 @@ use layers::object_tag;
 use layers::put_object;
 use memory::DISPLAY_WIDTH;
 use regs::Reading;
+use regs::iodev::read_dispcnt;
 use rgb15::Rgb15;
 use rows::put_word;
+use sorting::sort_backgrounds;
 
 // The colour of a column.
 fn finalize_pixel(
@@ -257,7 +261,25 @@ fn write_row(output: &mut [u8], pixels: [u32; 240])
     }
 }
 
-// A line composed and written. Line j is the colour line of the background in place j.
+// The line of the background in a place; where it has none, the region permits no line, so any serves.
+fn line_in_place(
+    place: usize,
+    line0: [Rgb15; 240],
+    line1: [Rgb15; 240],
+    line2: [Rgb15; 240],
+    line3: [Rgb15; 240],
+) -> [Rgb15; 240]
+    ensures { λ r. ⌜ r ≡ bgLine line0 line1 line2 line3 place ⌝ }
+{
+    match place {
+        0 => line0,
+        1 => line1,
+        2 => line2,
+        _ => line3,
+    }
+}
+
+// A line composed and written, of the lines of backgrounds 0 to 3; they are sorted once for all its columns.
 pub fn finalize_scanline(
     output: &mut [u8],
     entries: &[u8],
@@ -265,7 +287,6 @@ pub fn finalize_scanline(
     registers: &[u8],
     reading: Reading,
     line: usize,
-    places: [usize; 4],
     line0: [Rgb15; 240],
     line1: [Rgb15; 240],
     line2: [Rgb15; 240],
@@ -281,11 +302,12 @@ pub fn finalize_scanline(
         ≡ rowOf wordCells
         (λ column.
         pixel reading (now (registers .entry)) (backdrop (now (palette .entry)))
-        (placedLayers (now (registers .entry)) places line0 line1 line2 line3 column)
+        (backgrounds (now (registers .entry)) (λ bg. lineColor (bgLine line0 line1 line2 line3 bg) column))
         (cellAt entryCells (now (entries .entry)) column)
         column line)
         240 ⌝ }
 {
+    let places = sort_backgrounds(read_dispcnt(registers), registers);
     let regions = line_regions(entries, registers, reading, line, places);
     let layers = line_layers(palette, registers, places);
     let weights = line_weights(registers, reading);
@@ -297,10 +319,10 @@ pub fn finalize_scanline(
         regions,
         tags,
         objects,
-        line0,
-        line1,
-        line2,
-        line3,
+        line_in_place(places[0], line0, line1, line2, line3),
+        line_in_place(places[1], line0, line1, line2, line3),
+        line_in_place(places[2], line0, line1, line2, line3),
+        line_in_place(places[3], line0, line1, line2, line3),
     );
     write_row(output, wide_row(colors));
 }

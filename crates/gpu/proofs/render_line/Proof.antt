@@ -1,9 +1,10 @@
--- gpu::render_line meets its contract: each place's line is that of its background.
+-- gpu::render_line meets its contract: its lines are those of the backgrounds, which are composed to the line.
 -- Assumes nothing.
-use Prim.Native.Nat.{_<_}
+use Prim.Native.Nat.{ℕ, _<_}
+use native.Mathlib.Omega.{arith}
 use mathlib.Core.Path.{_≡_, ap, _∙_}
 use mathlib.Core.Bool.{true}
-use lib.ListN.{length, getD}
+use lib.ListN.{length}
 use mir.Syntax.{w32}
 use mir.Val.{toZ, ofZ}
 use mir.Facts.{toZ-ofZ}
@@ -15,13 +16,17 @@ use Rattle.regular.specs.Lent.{Lent}
 use Rattle.references.specs.References.{inRanges}
 use Rattle.judge.specs.Judge.{Call, callOf}
 use Rattle.references.proofs.Ranges.{references-are}
-use Rattle.gpu.proofs.Lines.{placed-same, line-ordered, lined-place}
+use Rattle.gpu.proofs.Lines.{drawnLine-is, line-composed}
 use Rattle.gpu.proofs.render_line.Statement.{statement}
 use Rattle.gpu.proofs.render_line.Tie as tie
 
--- What each place's line asks.
-abbrev Drawable : tie.Start → Type 0
-Drawable c =
+-- How the function starts, from the place where its switches are known.
+abbrev start : tie.After-on → tie.Start
+start c = c .before .before .before .before .before .before .before .before
+
+-- What each background's line asks.
+abbrev Drawable : tie.Start → ℕ → Type 0
+Drawable c bg =
     Lent (c .args .vram .now) (c .args .palette .now)
     × (length (c .args .registers .now) ≡ registersSize)
     × (mode (dispcnt (c .args .registers .now)) < 6)
@@ -33,39 +38,38 @@ Drawable c =
       y3 = toZ w32 (ofZ w32 (c .args .y3));
     })
     ≡ true)
+    × (bg < 4)
     × (c .args .line < 160)
 
-drawable : (c : tie.Start) → Drawable c
-drawable c =
+drawable : (c : tie.Start) {bg : ℕ} → bg < 4 → Drawable c bg
+drawable c bg< =
     let fits = c .fits in (
       (c .pre .lengths .vram-is, c .pre .lengths .palette-is),
       c .pre .lengths .registers-is,
       c .pre .mode<,
       ap inRanges (references-are (toZ-ofZ (fits .x2)) (toZ-ofZ (fits .y2)) (toZ-ofZ (fits .x3)) (toZ-ofZ (fits .y3))) ∙ c .pre .ranges,
+      bg<,
       c .pre .line<,
     )
 
-sort-backgrounds-requires : tie.Need-sort-backgrounds-requires
-sort-backgrounds-requires c κs = (c .before .before .before .before .before .before .before .pre .lengths .registers-is, c .read-dispcnt .ensures)
+bg-line-requires : tie.Need-bg-line-requires
+bg-line-requires c κs = drawable (start c) (omega arith)
 
-render-place-requires : tie.Need-render-place-requires
-render-place-requires c κs = drawable (c .before .before .before .before .before .before .before .before)
+bg-line-requires-2 : tie.Need-bg-line-requires-2
+bg-line-requires-2 c κs = drawable (start (c .before)) (omega arith)
 
-render-place-requires-2 : tie.Need-render-place-requires-2
-render-place-requires-2 c κs = drawable (c .before .before .before .before .before .before .before .before .before)
+bg-line-requires-3 : tie.Need-bg-line-requires-3
+bg-line-requires-3 c κs = drawable (start (c .before .before)) (omega arith)
 
-render-place-requires-3 : tie.Need-render-place-requires-3
-render-place-requires-3 c κs = drawable (c .before .before .before .before .before .before .before .before .before .before)
-
-render-place-requires-4 : tie.Need-render-place-requires-4
-render-place-requires-4 c κs = drawable (c .before .before .before .before .before .before .before .before .before .before .before)
+bg-line-requires-4 : tie.Need-bg-line-requires-4
+bg-line-requires-4 c κs = drawable (start (c .before .before .before)) (omega arith)
 
 from-requires : tie.Need-from-requires
-from-requires c κs = c .before .before .before .before .before .before .before .before .before .before .before .before .before .pre .reading<
+from-requires c κs = start (c .before .before .before .before .before) .pre .reading<
 
 finalize-scanline-requires : tie.Need-finalize-scanline-requires
 finalize-scanline-requires c κs =
-    let pre = c .before .before .before .before .before .before .before .before .before .before .before .before .before .before .pre in (
+    let pre = start (c .before .before .before .before .before .before) .pre in (
       pre .lengths .output-is,
       pre .lengths .entries-is,
       pre .lengths .palette-is,
@@ -87,18 +91,17 @@ returns c =
     let third = fourth .before in
     let second = third .before in
     let first = second .before in
-    let sorted = first .before in
-    let start = sorted .before .before .before .before .before .before .before .before in
-    let fits = start .fits in
-    let same = references-are (toZ-ofZ (fits .x2)) (toZ-ofZ (fits .y2)) (toZ-ofZ (fits .x3)) (toZ-ofZ (fits .y3)) in
-    let at = sorted .sort-backgrounds .result in
-    line-ordered _ _ (from .from .ensures) (sorted .sort-backgrounds .ensures)
-    (record {
-      line0-is = lined-place (call start) (getD at 0 0) (placed-same (call start) same (getD at 0 0) (first .render-place .ensures));
-      line1-is = lined-place (call start) (getD at 1 0) (placed-same (call start) same (getD at 1 0) (second .render-place2 .ensures));
-      line2-is = lined-place (call start) (getD at 2 0) (placed-same (call start) same (getD at 2 0) (third .render-place3 .ensures));
-      line3-is = lined-place (call start) (getD at 3 0) (placed-same (call start) same (getD at 3 0) (fourth .render-place4 .ensures));
-    })
+    let switches = first .before in
+    let s = start switches in
+    let on-is = switches .before .read-dispcnt .ensures .bg-is in
+    let same = references-are (toZ-ofZ (s .fits .x2)) (toZ-ofZ (s .fits .y2)) (toZ-ofZ (s .fits .x3)) (toZ-ofZ (s .fits .y3)) in
+    line-composed (call s)
+    (drawnLine-is (call s) 0 on-is same (first .bg-line .ensures))
+    (drawnLine-is (call s) 1 on-is same (second .bg-line2 .ensures))
+    (drawnLine-is (call s) 2 on-is same (third .bg-line3 .ensures))
+    (drawnLine-is (call s) 3 on-is same (fourth .bg-line4 .ensures))
+    (s .args .entries .now)
+    (from .from .ensures)
     (ran .finalize-scanline .ensures)
 
 pub render-line-spec : {M : Type 1} → statement M
@@ -106,15 +109,14 @@ render-line-spec =
     tie.close
     (tie.spec
     (search needs)
-    sort-backgrounds-requires
     (search needs)
-    render-place-requires
+    bg-line-requires
     (search needs)
-    render-place-requires-2
+    bg-line-requires-2
     (search needs)
-    render-place-requires-3
+    bg-line-requires-3
     (search needs)
-    render-place-requires-4
+    bg-line-requires-4
     from-requires
     finalize-scanline-requires
     (search needs)

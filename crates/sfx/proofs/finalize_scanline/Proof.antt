@@ -2,20 +2,21 @@
 -- Assumes nothing.
 use borrow.Author.Needs.{needs}
 use Rattle.layers.proofs.Marks.{unmarked, object-bound}
+use Rattle.sfx.specs.Lines.{bgLine}
 use Rattle.sfx.proofs.Columns.{scanline-is}
 use Rattle.sfx.proofs.finalize_scanline.Statement.{statement}
 use Rattle.sfx.proofs.finalize_scanline.Tie as tie
 
 -- How the function starts, from the place where its regions are known.
 abbrev start : tie.After-line-regions → tie.Start
-start c = c .before .before .before .before .before
+start c = c .before .before .before .before .before .before .before
 
 object-tags-requires : tie.Need-object-tags-requires
 object-tags-requires c κs = (start (c .before .before) .pre .1, object-bound (c .before .line-layers .ensures))
 
 compose-row-requires : tie.Need-compose-row-requires
 compose-row-requires c κs =
-    let weights = c .before .before in
+    let weights = c .before .before .before .before .before .before in
     (weights .line-weights .ensures .1, unmarked (weights .before .line-layers .ensures))
 
 returns : tie.Need-returns
@@ -23,16 +24,27 @@ returns c =
     let written = c .before .before in
     let pixels = written .before in
     let colors = pixels .before .before in
-    let objects = colors .before in
+    let fourth = colors .before in
+    let third = fourth .before in
+    let second = third .before in
+    let first = second .before in
+    let objects = first .before in
     let tags = objects .before in
     let weights = tags .before in
     let layers = weights .before in
-    scanline-is _ _ _ _ _ _ _ _ _ _
-    (layers .before .line-regions .ensures)
+    let regions = layers .before in
+    let a = start regions .args in
+    scanline-is _ _ _ _ _ _ (bgLine (a .line0) (a .line1) (a .line2) (a .line3))
+    (regions .before .sort-backgrounds .ensures)
+    (regions .line-regions .ensures)
     (layers .line-layers .ensures)
     (weights .line-weights .ensures .0)
     (tags .object-tags .ensures)
     (objects .object-colors .ensures)
+    (first .line-in-place .ensures)
+    (second .line-in-place2 .ensures)
+    (third .line-in-place3 .ensures)
+    (fourth .line-in-place4 .ensures)
     (colors .compose-row .ensures)
     (pixels .wide-row .ensures)
     (written .write-row .ensures)
@@ -42,12 +54,22 @@ finalize-scanline-spec =
     tie.close
     (tie.spec
     (search needs)
+    (λ c κs. (c .before .before .before .before .before .pre .3, c .read-dispcnt .ensures))
+    (search needs)
     (λ c κs. (start c .pre .2, start c .pre .3))
     (λ c κs. (start (c .before) .pre .3, start (c .before) .pre .4))
     object-tags-requires
     (λ c κs. start (c .before .before .before) .pre .1)
+    (search needs)
+    (λ c κs. tt)
+    (search needs)
+    (λ c κs. tt)
+    (search needs)
+    (λ c κs. tt)
+    (search needs)
+    (λ c κs. tt)
     compose-row-requires
     (λ c κs. tt)
-    (λ c κs. start (c .before .before .before .before .before .before .before) .pre .0)
+    (λ c κs. start (c .before .before .before .before .before .before .before .before .before .before .before) .pre .0)
     (search needs)
     returns)

@@ -1,4 +1,4 @@
--- gpu::render_place meets its contract: a place below 4 is its background's line.
+-- gpu::bg_line meets its contract: with the switch on it is the background's line, else a transparent one.
 -- Assumes nothing.
 use mathlib.Core.Path.{_∙_, ap}
 use mir.Facts.{toZ-ofZ}
@@ -6,9 +6,9 @@ use Rattle.rgb15.specs.Colour.{rgb}
 use Rattle.rows.specs.Tab.{tab}
 use Rattle.background.specs.Background.{backgroundColor}
 use Rattle.references.proofs.Ranges.{references-are, ranges-true}
-use Rattle.gpu.proofs.Lines.{placeLine-on, placeLine-none}
-use Rattle.gpu.proofs.render_place.Statement.{statement}
-use Rattle.gpu.proofs.render_place.Tie as tie
+use Rattle.gpu.proofs.Lines.{line-on, line-off}
+use Rattle.gpu.proofs.bg_line.Statement.{statement}
+use Rattle.gpu.proofs.bg_line.Tie as tie
 
 render-bg-requires : tie.Need-render-bg-requires
 render-bg-requires c κs =
@@ -22,8 +22,8 @@ render-bg-requires c κs =
       rw (toZ-ofZ (fits .y2)) (all .1),
       rw (toZ-ofZ (fits .x3)) (all .2),
       rw (toZ-ofZ (fits .y3)) (all .3),
-      c .if1 .taken,
       start .pre .4,
+      start .pre .5,
     )
 
 returns : tie.Need-returns
@@ -31,13 +31,15 @@ returns c =
     let start = c .before .before .before .before .before in
     let fits = start .fits in
     let at = start .args in
-    placeLine-on _ _ _ _ _ _ (c .before .if1 .taken)
+    line-on _ _ _ _ _ _ (c .before .if1 .taken)
     (c .render-bg .ensures
-    ∙ ap (λ r. tab (λ column. rgb (backgroundColor (at .vram .now) (at .palette .now) (at .registers .now) r (at .place) column (at .line))) 240)
+    ∙ ap
+    (λ r.
+    tab (λ column. rgb (backgroundColor (at .vram .now) (at .palette .now) (at .registers .now) r (at .bg) column (at .line))) 240)
     (references-are (toZ-ofZ (fits .x2)) (toZ-ofZ (fits .y2)) (toZ-ofZ (fits .x3)) (toZ-ofZ (fits .y3))))
 
 returns-2 : tie.Need-returns-2
-returns-2 c = placeLine-none _ _ _ _ _ _ (c .if1 .left)
+returns-2 c = line-off _ _ _ _ _ _ (c .if1 .left)
 
-pub render-place-spec : {M : Type 1} → statement M
-render-place-spec = tie.close (tie.spec render-bg-requires returns returns-2)
+pub bg-line-spec : {M : Type 1} → statement M
+bg-line-spec = tie.close (tie.spec render-bg-requires returns returns-2)
