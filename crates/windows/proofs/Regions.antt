@@ -15,7 +15,7 @@ use Rattle.entries.specs.Entry.{entryCells, windowMark}
 use Rattle.windows.specs.Region.{region, permitted, usesWindows, inWindow0, inWindow1}
 use Rattle.windows.specs.Row.{wordIn, regionAt, regionRow}
 use Rattle.windows.specs.Walk.{ColumnsOf, walkedWord, walkedRow}
-use Rattle.windows.specs.declared.Columns.{Columns}
+use Rattle.marks.specs.declared.Columns.{Columns}
 use Rattle.windows.specs.declared.RegionWords.{RegionWords}
 use Rattle.windows.specs.declared.WindowType.{WindowType}
 use Rattle.windows.specs.declared.WindowType.the-variants.{Win0, Win1, WinObj, WinOut, WinNone}

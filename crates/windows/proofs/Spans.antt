@@ -11,7 +11,7 @@ use Rattle.window.specs.Windows.{left, right, top, bottom, WindowOf, rightEdge,
 use Rattle.window.specs.declared.Window.{Window}
 use Rattle.window.proofs.Laws.{inside-none}
 use Rattle.windows.specs.Walk.{ColumnsOf}
-use Rattle.windows.specs.declared.Columns.{Columns}
+use Rattle.marks.specs.declared.Columns.{Columns}
 
 -- The columns of a test that is the same.
 columnsOf-cong : {p q : ℕ → Bool} {c : Columns} → ColumnsOf p c → ((k : ℕ) → p k ≡ q k) → ColumnsOf q c

@@ -1,85 +1,83 @@
 -- Laws of the walk over a line's windows. No contract cites this file. Assumes nothing.
 use Prim.Native.Nat.{ℕ, _<_}
 use native.Mathlib.Omega.{arith}
-use mathlib.Core.Path.{_≡_, refl, sym, ap, _∙_}
-use mathlib.Core.Bool.{Bool, true, false, cond, _&&_, _||_}
+use mathlib.Core.Path.{_≡_, refl, sym, ap₂, _∙_}
+use mathlib.Core.Bool.{Bool, true, false, cond, not, _&&_, _||_}
 use mathlib.Core.List.{List}
-use lib.ListN.{length, replicate}
-use Rattle.rows.specs.Cells.{cellAt, only}
-use Rattle.rows.specs.Marks.{marked, markAll, countMarks, Clean}
-use Rattle.rows.specs.Tab.{tab, mapTab}
-use Rattle.rows.proofs.Marks.{marked-none, clean-none, countMarks-full, length-markAll, clean-markAll, marked-markAll}
-use Rattle.rows.proofs.Tab.{getD-of-tab, tab-cong, tab-replicate}
+use lib.ListN.{replicate}
+use Rattle.rows.specs.Cells.{cellAt}
+use Rattle.rows.specs.Marks.{marked, countMarks}
+use Rattle.rows.specs.Tab.{tab}
+use Rattle.rows.proofs.Below.{between-inside}
+use Rattle.rows.proofs.Marks.{countMarks-full}
+use Rattle.rows.proofs.Tab.{tab-cong, tab-replicate}
 use Rattle.entries.specs.Entry.{entryCells, windowMark}
-use Rattle.windows.specs.Walk.{holds, walkedWord, walkedRow}
-use Rattle.windows.specs.declared.Columns.{Columns}
+use Rattle.marks.specs.Marks.{holds, MarksOf, givenRow}
+use Rattle.windows.specs.Walk.{walkedWord, walkedRow}
+use Rattle.marks.specs.declared.Columns.{Columns}
 use Rattle.windows.specs.declared.RegionWords.{RegionWords}
+use Rattle.marks.proofs.Paints.{tab-given}
 
--- A row with columns painted, an element at a time.
-tab-painted : (c : Columns) (w : ℕ) (f : ℕ → ℕ) {row : List ℕ} → row ≡ tab f 240
-    → mapTab (only (holds c) (λ _ _. w)) 240 0 row ≡ tab (λ k. cond (holds c k) w (f k)) 240
-unfolding mapTab
-tab-painted c w f e = tab-cong _ _ 240 (λ k lt. ap (cond (holds c k) w) (getD-of-tab f 240 k 0 e lt))
+-- A column of window 0 is kept, one of window 1 alone is given to it, and one of neither is given to the rest.
+cond-second : (s t : Bool) (a b c : ℕ) → (s || (t && not s)) ≡ true → cond (t && not s) b a ≡ cond s a (cond t b c)
+cond-second true true a b c e = refl
+cond-second true false a b c e = refl
+cond-second false true a b c e = refl
+cond-second false false a b c e = cc
 
--- The marks with columns claimed, from a call.
-abbrev Claimed : List ℕ → Columns → List ℕ → Type 0
-Claimed ws c r = r ≡ markAll (holds c) 240 ws
+cond-all : (s t : Bool) (a b c : ℕ) → cond (not (s || (t && not s))) c (cond (t && not s) b a) ≡ cond s a (cond t b c)
+cond-all true true a b c = refl
+cond-all true false a b c = refl
+cond-all false true a b c = refl
+cond-all false false a b c = refl
 
--- The first window claims what it holds, and after it both claim what either holds; nothing is marked past the line.
-module _ (win0 : Columns) {ws : List ℕ} (first : Claimed (replicate 4 0) win0 ws) where
-  marked-first : (k : ℕ) → k < 240 → marked ws k ≡ holds win0 k
-  marked-first k lt =
-      ap (λ (l : List ℕ). marked l k) first
-      ∙ marked-markAll (holds win0) (replicate 4 0) refl 240 (omega arith) k lt
-      ∙ ap (λ (t : Bool). t || holds win0 k) (marked-none k)
-
-  length-first : length ws ≡ 4
-  length-first = ap length first ∙ length-markAll (holds win0) 240 (replicate 4 0)
-
-  pub clean-first : Clean ws
-  clean-first = rw first (clean-markAll (holds win0) (replicate 4 0) refl 240 (omega arith) clean-none)
-
-  module _ (win1 : Columns) {vs : List ℕ} (second : Claimed ws win1 vs) where
-    marked-both : (k : ℕ) → k < 240 → marked vs k ≡ (holds win0 k || holds win1 k)
-    marked-both k lt =
-        ap (λ (l : List ℕ). marked l k) second
-        ∙ marked-markAll (holds win1) ws length-first 240 (omega arith) k lt
-        ∙ ap (λ (t : Bool). t || holds win1 k) (marked-first k lt)
-
-    pub clean-both : Clean vs
-    clean-both = rw second (clean-markAll (holds win1) ws length-first 240 (omega arith) clean-first)
-
-cond-either : {A : Type 0} (s t : Bool) (a b c : A) → (s || t) ≡ true → cond s a b ≡ cond s a (cond t b c)
-cond-either true t a b c e = refl
-cond-either false true a b c e = refl
-cond-either false false a b c e = cc
-
-module _ (entries : List ℕ) (objWindow : Bool) (win0 win1 : Columns) (words : RegionWords) {ws : List ℕ}
-    (first : Claimed (replicate 4 0) win0 ws) where
-  -- Window 0 claims every column.
-  pub walked-first : countMarks ws ≡ 240 → replicate 240 (words .win0) ≡ walkedRow entries objWindow win0 win1 words
+module _ (entries : List ℕ) (objWindow : Bool) (win0 win1 : Columns) (words : RegionWords)
+    {first : List ℕ} (first-is : MarksOf (holds win0) first) where
+  -- Window 0 holds every column.
+  pub walked-first : countMarks first ≡ 240 → replicate 240 (words .win0) ≡ walkedRow entries objWindow win0 win1 words
   unfolding walkedWord
   walked-first full =
       tab-replicate (words .win0) 240
-      ∙ tab-cong _ _ 240 (λ k lt. rw (sym (marked-first win0 first k lt) ∙ countMarks-full ws full k lt))
+      ∙ tab-cong _ _ 240 (λ k lt. rw (sym (first-is .same k lt) ∙ countMarks-full first full k lt))
 
-  -- Windows 0 and 1 claim every column.
-  pub walked-second : {vs row : List ℕ} → Claimed ws win1 vs → countMarks vs ≡ 240
-      → row ≡ mapTab (only (holds win0) (λ _ _. words .win0)) 240 0 (replicate 240 (words .win1))
-      → row ≡ walkedRow entries objWindow win0 win1 words
-  unfolding walkedWord
-  walked-second {vs} second full e =
-      e
-      ∙ tab-painted win0 (words .win0) (λ _. words .win1) (tab-replicate (words .win1) 240)
-      ∙ tab-cong _ _ 240 (λ k lt.
-      cond-either (holds win0 k) (holds win1 k) _ _ _ (sym (marked-both win0 first win1 second k lt) ∙ countMarks-full vs full k lt))
+  module _ {held second occupied row : List ℕ} (held-is : MarksOf (holds win1) held)
+      (second-is : MarksOf (λ k. marked held k && not (marked first k)) second)
+      (row-is : row ≡ givenRow (marked second) (replicate 240 (words .win1)) (replicate 240 (words .win0)))
+      (occupied-is : MarksOf (λ k. marked first k || marked second k) occupied) where
+    marked-second : (k : ℕ) → k < 240 → marked second k ≡ (holds win1 k && not (holds win0 k))
+    marked-second k lt =
+        second-is .same k lt ∙ ap₂ (λ (t s : Bool). t && not s) (held-is .same k lt) (first-is .same k lt)
 
--- Some columns are left.
-pub walked-all : (entries : List ℕ) (objWindow : Bool) (win0 win1 : Columns) (words : RegionWords) {rest row all : List ℕ}
-    → rest ≡ tab (λ k. cond (objWindow && windowMark (cellAt entryCells entries k)) (words .winobj) (words .winout)) 240
-    → row ≡ mapTab (only (holds win1) (λ _ _. words .win1)) 240 0 rest
-    → all ≡ mapTab (only (holds win0) (λ _ _. words .win0)) 240 0 row
-    → all ≡ walkedRow entries objWindow win0 win1 words
-unfolding walkedWord
-walked-all entries objWindow win0 win1 words e f g =
-    g ∙ tab-painted win0 (words .win0) _ (f ∙ tab-painted win1 (words .win1) _ e)
+    marked-occupied : (k : ℕ) → k < 240 → marked occupied k ≡ (holds win0 k || (holds win1 k && not (holds win0 k)))
+    marked-occupied k lt = occupied-is .same k lt ∙ ap₂ _||_ (first-is .same k lt) (marked-second k lt)
+
+    row-second : row ≡ tab (λ k. cond (marked second k) (words .win1) (words .win0)) 240
+    row-second = row-is ∙ tab-given (marked second) _ _ (tab-replicate (words .win1) 240) (tab-replicate (words .win0) 240)
+
+    -- Windows 0 and 1 hold every column.
+    pub walked-second : countMarks occupied ≡ 240 → row ≡ walkedRow entries objWindow win0 win1 words
+    unfolding walkedWord
+    walked-second full =
+        row-second
+        ∙ tab-cong _ _ 240 (λ k lt.
+        rw (marked-second k lt)
+        (cond-second (holds win0 k) (holds win1 k) _ _ _ (sym (marked-occupied k lt) ∙ countMarks-full occupied full k lt)))
+
+    -- Some columns are left.
+    pub walked-all : {line left rest all : List ℕ}
+        → MarksOf (holds (record { left = 0; right = 240 })) line
+        → MarksOf (λ k. marked line k && not (marked occupied k)) left
+        → rest ≡ tab (λ k. cond (objWindow && windowMark (cellAt entryCells entries k)) (words .winobj) (words .winout)) 240
+        → all ≡ givenRow (marked left) rest row
+        → all ≡ walkedRow entries objWindow win0 win1 words
+    unfolding walkedWord
+    walked-all {line} {left} line-is left-is rest-is e =
+        e
+        ∙ tab-given (marked left) _ _ rest-is row-second
+        ∙ tab-cong _ _ 240 (λ k lt.
+        rw (marked-left k lt, marked-second k lt) (cond-all (holds win0 k) (holds win1 k) _ _ _))
+      where
+        marked-left : (k : ℕ) → k < 240 → marked left k ≡ not (holds win0 k || (holds win1 k && not (holds win0 k)))
+        marked-left k lt =
+            left-is .same k lt
+            ∙ ap₂ (λ (t s : Bool). t && not s) (line-is .same k lt ∙ between-inside 0 240 k (omega arith) lt) (marked-occupied k lt)

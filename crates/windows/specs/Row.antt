@@ -4,6 +4,7 @@ use Prim.Native.Nat.{ℕ}
 use mathlib.Core.List.{List}
 use Rattle.rows.specs.Cells.{cellAt}
 use Rattle.rows.specs.Tab.{tab}
+use Rattle.memory.specs.Sizes.{displayWidth}
 use Rattle.regs.specs.declared.reading.Reading.{Reading}
 use Rattle.entries.specs.Entry.{entryCells, windowMark}
 use Rattle.windows.specs.Region.{region}
@@ -27,4 +28,4 @@ regionAt reading registers entries column line =
 -- The row of a line: the words of its 240 columns.
 abbrev pub regionRow : Reading → List ℕ → List ℕ → ℕ → RegionWords → List ℕ
 regionRow reading registers entries line words =
-    tab (λ column. wordIn words (regionAt reading registers entries column line)) 240
+    tab (λ column. wordIn words (regionAt reading registers entries column line)) displayWidth

@@ -1,24 +1,15 @@
 -- What the walk over a line's windows computes with: the columns that each window claims (01, "Windows and blending").
 -- No public contract cites this file. Assumes nothing.
-use Prim.Native.Nat.{ℕ, _≤_}
+use Prim.Native.Nat.{ℕ}
 use mathlib.Core.Path.{_≡_}
 use mathlib.Core.Bool.{Bool, cond, _&&_}
 use mathlib.Core.List.{List}
-use Rattle.rows.specs.Below.{between}
 use Rattle.rows.specs.Cells.{cellAt}
 use Rattle.rows.specs.Tab.{tab}
 use Rattle.entries.specs.Entry.{entryCells, windowMark}
-use Rattle.windows.specs.declared.Columns.{Columns}
+use Rattle.marks.specs.Marks.{holds, Spanned}
+use Rattle.marks.specs.declared.Columns.{Columns}
 use Rattle.windows.specs.declared.RegionWords.{RegionWords}
-
--- Whether columns hold k.
-abbrev pub holds : Columns → ℕ → Bool
-holds c k = between (c .left) (c .right) k
-
--- Columns lie on the line, the left edge not past the right one.
-pub record Spanned (c : Columns) : Type 0 where
-  pub ordered : c .left ≤ c .right
-  pub bound : c .right ≤ 240
 
 -- Columns are those that the test picks.
 pub record ColumnsOf (test : ℕ → Bool) (c : Columns) : Type 0 where

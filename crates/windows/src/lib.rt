@@ -1,18 +1,23 @@
 // Regions of a line (gpu/sfx.rs, the walks of `finalize_scanline`; gpu/window.rs).
 ghost use mathlib.Core.Path.{_≡_};
 ghost use mathlib.Core.Bool.{cond, _&&_};
-ghost use Prim.Native.Nat.{_-_, _^_, _≤_, _<_, min};
+ghost use Prim.Native.Nat.{_<_};
 ghost use lib.ListN.{length};
-ghost use Rattle.rows.specs.Cells.{cellAt, only};
-ghost use Rattle.rows.specs.Marks.{markAll};
-ghost use Rattle.rows.specs.Tab.{tab, mapTab};
+ghost use Rattle.rows.specs.Cells.{cellAt};
+ghost use Rattle.rows.specs.Tab.{tab};
 ghost use Rattle.memory.specs.Sizes.{registersSize};
 ghost use Rattle.window.specs.Windows.{inColumns, inRows};
 ghost use Rattle.entries.specs.Entry.{entriesSize, entryCells, windowMark};
 ghost use Rattle.windows.specs.Region.{permitted, inWindow0, inWindow1};
 ghost use Rattle.windows.specs.Row.{regionRow};
-ghost use Rattle.windows.specs.Walk.{holds, Spanned, ColumnsOf, walkedRow};
+ghost use Rattle.marks.specs.Marks.{Spanned};
+ghost use Rattle.windows.specs.Walk.{ColumnsOf, walkedRow};
 use entries::entry_at;
+use marks::Columns;
+use marks::free_marks;
+use marks::joined;
+use marks::marks_of;
+use marks::paint;
 use memory::DISPLAY_WIDTH;
 use regs::Reading;
 use regs::iodev::read_dispcnt;
@@ -40,12 +45,6 @@ pub struct RegionWords {
     pub winobj: u16,
     pub winout: u16,
     pub winnone: u16,
-}
-
-// The columns from left on and before right.
-struct Columns {
-    left: usize,
-    right: usize,
 }
 
 // What a region permits.
@@ -100,60 +99,6 @@ fn win1_columns(registers: &[u8], reading: Reading, line: usize) -> Columns
     }
 }
 
-// How far a column lies past the first of a word, or 0.
-fn past(column: usize, first: usize) -> usize
-    ensures { λ r. ⌜ r ≡ column - first ⌝ }
-{
-    if column < first { 0 } else { column - first }
-}
-
-// A word with its n lowest marks set, or all of them.
-fn low_marks(n: usize) -> u64
-    ensures { λ r. ⌜ r ≡ 2 ^ min 64 n - 1 ⌝ }
-{
-    if n < 64 {
-        (1u64 << n) - 1
-    } else {
-        0xffff_ffff_ffff_ffff
-    }
-}
-
-// The marks of columns in one word, whose 64 columns start at first.
-fn marks_in(columns: Columns, first: usize) -> u64
-    requires { ⌜ columns .left ≤ columns .right ⌝ }
-    ensures { λ r. ⌜ r ≡ 2 ^ min 64 (columns .right - first) - 2 ^ min 64 (columns .left - first) ⌝ }
-{
-    low_marks(past(columns.right, first)) - low_marks(past(columns.left, first))
-}
-
-// The marks with columns claimed, a word at a time: a column at a time would be far slower.
-fn claim(occupied: [u64; 4], columns: Columns) -> [u64; 4]
-    requires { ⌜ Spanned columns ⌝ }
-    ensures { λ r. ⌜ r ≡ markAll (holds columns) 240 occupied ⌝ }
-{
-    [
-        occupied[0] | marks_in(columns, 0),
-        occupied[1] | marks_in(columns, 64),
-        occupied[2] | marks_in(columns, 128),
-        occupied[3] | marks_in(columns, 192),
-    ]
-}
-
-// The row with columns set to a word.
-fn paint(row: [u16; 240], columns: Columns, word: u16) -> [u16; 240]
-    requires { ⌜ Spanned columns ⌝ }
-    ensures { λ r. ⌜ r ≡ mapTab (only (holds columns) (λ _ _. word)) 240 0 row ⌝ }
-{
-    let mut painted = row;
-    let right = columns.right;
-    let mut x = columns.left;
-    while x < right {
-        painted[x] = word;
-        x += 1;
-    }
-    painted
-}
-
 // The word of a column in the object window or outside, by the entry's mark.
 fn unclaimed_word(entries: &[u8], x: usize, winobj: u16, winout: u16) -> u16
     requires { ⌜ (length (now entries) ≡ entriesSize) × (x < 240) ⌝ }
@@ -185,8 +130,8 @@ fn unclaimed_row(entries: &[u8], obj_window: bool, winobj: u16, winout: u16) -> 
     row
 }
 
-// The row of a line with windows on. Where the columns occupied so far are all 240, the regions after are left out. The row is
-// written from the last region to the first, so that no column is asked whether it is occupied.
+// The row of a line with windows on. Each column starts as window 0's and is given away once at most, by the marks: what window 1
+// has and window 0 hasn't, and then what neither has. Once the occupied columns are all 240, nothing is left to give.
 fn windowed_row(
     entries: &[u8],
     obj_window: bool,
@@ -197,19 +142,27 @@ fn windowed_row(
     requires { ⌜ (length (now entries) ≡ entriesSize) × Spanned win0 × Spanned win1 ⌝ }
     ensures { λ r. ⌜ r ≡ walkedRow (now (entries .entry)) «obj_window» win0 win1 words ⌝ }
 {
-    let occupied = claim([0u64; 4], win0);
+    let word0 = words.win0;
+    let word1 = words.win1;
+    let first = marks_of(win0);
+    let mut row = [word0; 240];
+    if count_marks(first) as usize == DISPLAY_WIDTH {
+        return row;
+    }
+    let second = free_marks(marks_of(win1), first);
+    let words1 = [word1; 240];
+    paint(&mut row, second, &words1);
+    let occupied = joined(first, second);
     if count_marks(occupied) as usize == DISPLAY_WIDTH {
-        let word = words.win0;
-        return [word; 240];
+        return row;
     }
-    let both = claim(occupied, win1);
-    if count_marks(both) as usize == DISPLAY_WIDTH {
-        let word = words.win1;
-        return paint([word; 240], win0, words.win0);
-    }
+    let line = Columns {
+        left: 0,
+        right: DISPLAY_WIDTH,
+    };
     let rest = unclaimed_row(entries, obj_window, words.winobj, words.winout);
-    let row = paint(rest, win1, words.win1);
-    paint(row, win0, words.win0)
+    paint(&mut row, free_marks(marks_of(line), occupied), &rest);
+    row
 }
 
 // The row of a line: the word of each column's region.

@@ -1,9 +1,9 @@
--- windows::marks_in meets its contract: the marks below the left edge are taken from those below the right one.
+-- marks::marks_in meets its contract: the marks below the left edge are taken from those below the right one.
 -- Assumes nothing.
 use borrow.Author.Needs.{needs}
-use Rattle.windows.proofs.Claims.{low-bound, low-less}
-use Rattle.windows.proofs.marks_in.Statement.{statement}
-use Rattle.windows.proofs.marks_in.Tie as tie
+use Rattle.marks.proofs.Marks.{low-bound, low-less}
+use Rattle.marks.proofs.marks_in.Statement.{statement}
+use Rattle.marks.proofs.marks_in.Tie as tie
 
 sub-result : tie.Need-sub-result
 sub-result c =

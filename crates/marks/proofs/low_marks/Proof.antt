@@ -1,4 +1,4 @@
--- windows::low_marks meets its contract: 1 shifted by less than 64 loses no bit, and 64 marks fill a word.
+-- marks::low_marks meets its contract: 1 shifted by less than 64 loses no bit, and 64 marks fill a word.
 -- Assumes nothing.
 use Prim.Native.Nat.{_-_, _*_, _%_, _^_, min}
 use native.Mathlib.Nat.{one-mul}
@@ -6,8 +6,8 @@ use native.Mathlib.Omega.{arith}
 use mathlib.Core.Path.{_≡_, _∙_}
 use lib.Pow.{pow-pos, shl-exact}
 use borrow.Author.Needs.{needs}
-use Rattle.windows.proofs.low_marks.Statement.{statement}
-use Rattle.windows.proofs.low_marks.Tie as tie
+use Rattle.marks.proofs.low_marks.Statement.{statement}
+use Rattle.marks.proofs.low_marks.Tie as tie
 
 sub-result : tie.Need-sub-result
 sub-result c =
