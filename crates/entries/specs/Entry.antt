@@ -7,6 +7,7 @@ use lib.Dec.{eqb, leb}
 use lib.ListN.{getD}
 use Rattle.bits.specs.Bits.{bit}
 use Rattle.rgb15.specs.Colour.{rgb, transparent}
+use Rattle.memory.specs.Sizes.{displayWidth}
 use Rattle.rows.specs.Below.{allBelow}
 use Rattle.rows.specs.Cells.{Codec, cellAt, rowOf}
 use Rattle.rows.proofs.Words.{join-split}
@@ -40,7 +41,7 @@ resetEntry = record { color = rgb transparent; priority = 4; marks = 0 }
 
 -- The reset row has 240 reset entries.
 abbrev pub resetRow : List ℕ
-resetRow = rowOf entryCells (λ _. resetEntry) 240
+resetRow = rowOf entryCells (λ _. resetEntry) displayWidth
 
 -- A well-shaped entry has marks at most 3 and either priority 4 with colour 0x8000 and bit 0 clear, or priority 0 to 3
 -- with colour at most 0x7fff.
@@ -52,4 +53,4 @@ wellShaped e =
 
 -- Whether each of a row's 240 entries is well shaped.
 abbrev pub shapedRow : List ℕ → Bool
-shapedRow entries = allBelow (λ k. wellShaped (cellAt entryCells entries k)) 240
+shapedRow entries = allBelow (λ k. wellShaped (cellAt entryCells entries k)) displayWidth

@@ -1,5 +1,5 @@
-// Object entries (gpu/mod.rs, `ObjBufferEntry`): four bytes of a lent row each, which `entry_at` and `put_entry` alone
-// read and write.
+// Object entries (gpu/mod.rs, `ObjBufferEntry`): four bytes of a lent row each, which `entry_at`, `put_entry` and
+// `put_unless` alone read and write.
 ghost use mathlib.Core.Path.{_≡_};
 ghost use mathlib.Core.Bool.{cond};
 ghost use Prim.Native.Nat.{_≤_, _<_};
@@ -9,6 +9,7 @@ ghost use Rattle.entries.specs.Entry.{entriesSize, entryCells, resetEntr
 ghost use Rattle.entries.specs.Word.{entryOf};
 ghost use Rattle.entries.specs.Reset.{Resets};
 use rgb15::Rgb15;
+use rows::put_word;
 use rows::word_at;
 
 // Entries of a row, one for each column of the screen.
@@ -52,6 +53,33 @@ pub fn put_entry(entries: &mut [u8], k: usize, e: Entry)
     entries[i + 1] = (color / 256) as u8;
     entries[i + 2] = e.priority;
     entries[i + 3] = e.marks;
+}
+
+// The word of an entry.
+fn word_of(e: Entry) -> u32
+    ensures { λ r. ⌜ entryOf r ≡ e ⌝ }
+{
+    e.color.0 as u32 + 0x1_0000 * (e.priority as u32) + 0x100_0000 * (e.marks as u32)
+}
+
+// One of two words, by a test.
+fn choose(test: bool, then: u32, other: u32) -> u32
+    ensures { λ r. ⌜ r ≡ cond test then other ⌝ }
+{
+    if test { then } else { other }
+}
+
+// Entry k of a row set to e, unless it is kept as it is. A word is put in either case, and one word is chosen where four
+// bytes would be: a loop over columns then becomes one over vectors.
+pub fn put_unless(entries: &mut [u8], k: usize, kept: bool, e: Entry)
+    requires { ⌜ (length (now entries) ≡ entriesSize) × (k < 240) ⌝ }
+    ensures { λ _.
+        ⌜ now (entries .exit)
+        ≡ putCell entryCells (now (entries .entry)) k
+        (cond kept (cellAt entryCells (now (entries .entry)) k) e) ⌝ }
+{
+    let word = word_at(entries, k);
+    put_word(entries, k, choose(kept, word, word_of(e)));
 }
 
 // The entry of a column on which no sprite was drawn.

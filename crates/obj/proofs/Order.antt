@@ -1,6 +1,6 @@
 -- The order of pixels: the entry of a column holds the winner of all that were put there, the first of least priority.
 -- No contract cites this file. Assumes nothing.
-use Prim.Native.Nat.{ℕ, zero, suc, _+_, _*_, _/_, _%_, _≤_, _<_}
+use Prim.Native.Nat.{ℕ, zero, suc, _≤_, _<_}
 use native.Mathlib.Omega.{arith}
 use mathlib.Core.Path.{_≡_, refl, ap, _∙_}
 use mathlib.Core.Bool.{Bool, true, false, not, cond, _&&_, _||_, or-true, or-false}
@@ -8,7 +8,7 @@ use mathlib.Core.List.{List, [], _∷_, _++_, append-nil, append-assoc}
 use mathlib.Core.List.{List·Memᴰ, List·Memᴰ·head, List·Memᴰ·not-nil, List·Memᴰ·append-cases, List·Memᴰ·eq-of-singleton}
 use mathlib.Core.List.{Memᴰ·append-left, Memᴰ·append-right}
 use mathlib.Core.Logic.{_⊎_, inl, inr, ⊎-elim}
-use lib.Dec.{eqb, leb}
+use lib.Dec.{leb}
 use borrow.Author.Tests.{leb-true, leb-false}
 use Rattle.rgb15.specs.Colour.{isTransparent}
 use Rattle.sprites.specs.Attrs.{sprite}
@@ -19,6 +19,7 @@ use Rattle.sprites.specs.declared.attrs.ObjMode.{ObjMode}
 use Rattle.entries.specs.declared.Entry.{Entry}
 use Rattle.sprites.proofs.Decode.{priority-bound}
 use Rattle.obj.proofs.Before.{Earlier, isBefore-priority, isBefore-earlier, isBefore-le}
+use Rattle.obj.proofs.Marks.{semi-put-same, semi-put-other}
 
 -- ---- one pixel more
 
@@ -71,20 +72,20 @@ cond-same : {A : Type 0} (t : Bool) (a : A) → cond t a a ≡ a
 cond-same true a = refl
 cond-same false a = refl
 
--- A pixel q of a sprite that is ordinary (semi is 0) or semi-transparent (semi is 1).
-module _ (ps : List Pixel) (e : Entry) (q : Pixel) (semi : ℕ) (semi≤ : semi ≤ 1) (semi-is : eqb semi 1 ≡ q .semi) where
-  shows-shownBy : Shows q (shownBy semi (q .priority) (q .color) e)
+-- A pixel q of a sprite that is ordinary or semi-transparent.
+module _ (ps : List Pixel) (e : Entry) (q : Pixel) where
+  abbrev shown : Entry
+  shown = shownBy (q .semi) (q .priority) (q .color) e
+
+  shows-shownBy : Shows q shown
   unfolding shownBy
-  shows-shownBy =
-      let mark : (e .marks / 2 * 2 + semi) / 1 % 2 ≡ semi = omega arith in
-      record { color-is = refl; priority-is = refl; semi-is = ap (λ n. eqb n 1) mark ∙ semi-is }
+  shows-shownBy = record { color-is = refl; priority-is = refl; semi-is = semi-put-same (q .semi) (e .marks) }
 
   holds-shown : Holds ps e → AllEarlier (q .draw) (q .sprite) ps → q .priority ≤ 3
-      → Holds (ps ++ (q ∷ [])) (cond (leb (e .priority) (q .priority)) e (shownBy semi (q .priority) (q .color) e))
+      → Holds (ps ++ (q ∷ [])) (cond (leb (e .priority) (q .priority)) e shown)
   holds-shown holds earlier q≤ = go (leb (e .priority) (q .priority)) refl
     where
-      go : (t : Bool) → leb (e .priority) (q .priority) ≡ t
-          → Holds (ps ++ (q ∷ [])) (cond t e (shownBy semi (q .priority) (q .color) e))
+      go : (t : Bool) → leb (e .priority) (q .priority) ≡ t → Holds (ps ++ (q ∷ [])) (cond t e shown)
       go true t = holds-passed ps e q holds earlier q≤ (leb-true (e .priority) (q .priority) t)
       go false t = holds-taken ps e q _ holds (omega (arith, leb-false (e .priority) (q .priority) t)) shows-shownBy
 
@@ -92,13 +93,19 @@ module _ (ps : List Pixel) (e : Entry) (q : Pixel) (semi : ℕ) (semi≤ : semi 
 holds-windowed : (ps : List Pixel) (e : Entry) → Holds ps e → Holds ps (windowed e)
 unfolding windowed
 holds-windowed ps e (none empty blank) =
-    let mark : (e .marks / 4 * 4 + 2 + e .marks % 2) / 1 % 2 ≡ e .marks / 1 % 2 = omega arith in
     none empty
-    (record { color-is = blank .color-is; priority-is = blank .priority-is; semi-is = ap (λ n. eqb n 1) mark ∙ blank .semi-is })
+    (record {
+      color-is = blank .color-is;
+      priority-is = blank .priority-is;
+      semi-is = semi-put-other (e .marks) ∙ blank .semi-is;
+    })
 holds-windowed ps e (some w wins shows) =
-    let mark : (e .marks / 4 * 4 + 2 + e .marks % 2) / 1 % 2 ≡ e .marks / 1 % 2 = omega arith in
     some w wins
-    (record { color-is = shows .color-is; priority-is = shows .priority-is; semi-is = ap (λ n. eqb n 1) mark ∙ shows .semi-is })
+    (record {
+      color-is = shows .color-is;
+      priority-is = shows .priority-is;
+      semi-is = semi-put-other (e .marks) ∙ shows .semi-is;
+    })
 
 -- A sprite of any mode, with a colour that may be transparent.
 module _ (ps : List Pixel) (e : Entry) (i n priority color : ℕ)
@@ -112,11 +119,11 @@ module _ (ps : List Pixel) (e : Entry) (i n priority color : ℕ)
   holds-put ObjMode.Normal true t = rw (t, or-true (leb (e .priority) priority), append-nil ps) holds
   holds-put ObjMode.Normal false t =
       rw (t, or-false (leb (e .priority) priority))
-      (holds-shown ps e (pixelBy ObjMode.Normal) 0 (omega arith) refl holds earlier priority≤)
+      (holds-shown ps e (pixelBy ObjMode.Normal) holds earlier priority≤)
   holds-put ObjMode.Sfx true t = rw (t, or-true (leb (e .priority) priority), append-nil ps) holds
   holds-put ObjMode.Sfx false t =
       rw (t, or-false (leb (e .priority) priority))
-      (holds-shown ps e (pixelBy ObjMode.Sfx) 1 (omega arith) refl holds earlier priority≤)
+      (holds-shown ps e (pixelBy ObjMode.Sfx) holds earlier priority≤)
   holds-put ObjMode.Window true t = rw (t, append-nil ps) holds
   holds-put ObjMode.Window false t = rw (t, append-nil ps) (holds-windowed ps e holds)
   holds-put ObjMode.Forbidden clear t =

@@ -1,70 +1,30 @@
 -- Laws of the pixels that a sprite puts. No contract cites this file. Assumes nothing.
-use Prim.Native.Nat.{ℕ, _+_, _≤_, _<_}
-use mathlib.Core.Path.{_≡_, refl, sym, ap, ap₂, _∙_}
-use mathlib.Core.Bool.{Bool, true, false, not, cond, _&&_, _||_, or-true}
+use Prim.Native.Nat.{ℕ, _+_, _-_, _≤_, _<_}
+use native.Mathlib.Omega.{arith}
+use mathlib.Core.Path.{_≡_, refl, sym, ap, _∙_}
+use mathlib.Core.Bool.{Bool, true, false, cond, _||_, or-true}
 use mathlib.Core.List.{List}
-use lib.Dec.{leb}
+use lib.Dec.{leb, ltb}
 use lib.ListN.{length, getD}
-use borrow.Author.Tests.{not-true, not-false}
+use borrow.Author.Tests.{ltb-true, ltb-false}
 use mir.Syntax.{w8}
 use mir.Val.{Fits}
-use Rattle.rgb15.specs.Colour.{transparent, isTransparent}
+use Rattle.rgb15.specs.Colour.{rgb, transparent, isTransparent}
+use Rattle.rgb15.specs.declared.Rgb15.{Rgb15}
 use Rattle.rows.specs.Below.{between}
-use Rattle.rows.specs.Cells.{cellAt, putCell, only, mapRow}
-use Rattle.rows.proofs.Cells.{putCell-same, mapRow-cong, mapRow-same}
-use Rattle.rows.proofs.Passed.{PassedPart, passed-from, passed-inside, passed-to}
+use Rattle.rows.specs.Cells.{cellAt, putCell, only}
+use Rattle.rows.proofs.Below.{between-inside, between-before, between-past}
+use Rattle.rows.proofs.Cells.{mapRow-cong, mapRow-ext, mapRow-same}
+use Rattle.rows.proofs.Passed.{PassedPart, passed-from, passed-inside}
 use Rattle.entries.specs.Entry.{entryCells}
-use Rattle.obj.specs.Put.{passedOver, shownBy, windowed, written, putPixel, putColumn, putRow}
-use Rattle.sprites.specs.Sprite.{isPermitted, isSemi, isWindow}
-use Rattle.sprites.specs.declared.attrs.ObjAttrs.{ObjAttrs}
-use Rattle.sprites.specs.declared.attrs.ObjMode.{ObjMode}
 use Rattle.entries.specs.declared.Entry.{Entry}
 use Rattle.entries.proofs.Entries.{exact-entryCells}
+use Rattle.sprites.specs.declared.attrs.ObjAttrs.{ObjAttrs}
+use Rattle.sprites.specs.declared.attrs.ObjMode.{ObjMode}
+use Rattle.obj.specs.Put.{passedOver, shownBy, windowed, written, putPixel}
+use Rattle.obj.specs.Steps.{putColumn, putRow, putBox, AllPassedOver}
 
--- ---- a pixel, by questions asked of the mode
-
-passedOver-asked : (mode : ObjMode) (priority : ℕ) (e : Entry)
-    → (not (isWindow mode) && leb (e .priority) priority) ≡ passedOver mode priority e
-unfolding passedOver isWindow
-passedOver-asked ObjMode.Normal priority e = refl
-passedOver-asked ObjMode.Sfx priority e = refl
-passedOver-asked ObjMode.Window priority e = refl
-passedOver-asked ObjMode.Forbidden priority e = refl
-
-written-asked : (mode : ObjMode) (priority color : ℕ) (e : Entry)
-    → cond (isPermitted mode) (cond (isWindow mode) (windowed e) (shownBy (cond (isSemi mode) 1 0) priority color e)) e
-    ≡ written mode priority color e
-unfolding written isPermitted isWindow isSemi
-written-asked ObjMode.Normal priority color e = refl
-written-asked ObjMode.Sfx priority color e = refl
-written-asked ObjMode.Window priority color e = refl
-written-asked ObjMode.Forbidden priority color e = refl
-
-module _ (mode : ObjMode) (priority : ℕ) (e : Entry) where
-  pub passedOver-is : {window : Bool} → window ≡ isWindow mode
-      → (not window && leb (e .priority) priority) ≡ passedOver mode priority e
-  passedOver-is window-is = ap (λ t. not t && leb (e .priority) priority) window-is ∙ passedOver-asked mode priority e
-
-  module _ (color : ℕ) {permitted : Bool} (permitted-is : permitted ≡ isPermitted mode) where
-    -- A sprite that isn't drawn writes nothing.
-    pub written-none : not permitted ≡ true → e ≡ written mode priority color e
-    written-none t = rw (sym permitted-is ∙ not-true permitted t) at (written-asked mode priority color e)
-
-    module _ {window : Bool} (window-is : window ≡ isWindow mode) (t : not permitted ≡ false) where
-      pub written-window : {r : Entry} → window ≡ true → r ≡ windowed e → r ≡ written mode priority color e
-      written-window w windowed-is =
-          windowed-is
-          ∙ (rw (sym permitted-is ∙ not-false permitted t, sym window-is ∙ w) at (written-asked mode priority color e))
-
-      pub written-shown : {semi : ℕ} {r : Entry} → window ≡ false → semi ≡ cond (isSemi mode) 1 0
-          → r ≡ shownBy semi priority color e
-          → r ≡ written mode priority color e
-      written-shown w semi-is shown =
-          shown
-          ∙ ap (λ n. shownBy n priority color e) semi-is
-          ∙ (rw (sym permitted-is ∙ not-false permitted t, sym window-is ∙ w) at (written-asked mode priority color e))
-
--- ---- a pixel put
+-- ---- one pixel
 
 module _ (mode : ObjMode) (priority : ℕ) where
   -- A transparent pixel changes nothing.
@@ -77,51 +37,110 @@ module _ (mode : ObjMode) (priority : ℕ) where
   unfolding putPixel
   putPixel-passed color e t = rw t
 
-  module _ (color : ℕ) (e : Entry) {passed clear : Bool}
-      (passed-is : passed ≡ passedOver mode priority e) (clear-is : clear ≡ isTransparent color) where
-    -- Where either test holds the entry stays.
-    pub putPixel-none : (passed || clear) ≡ true → e ≡ putPixel mode priority color e
-    unfolding putPixel
-    putPixel-none t = rw (sym (ap₂ _||_ passed-is clear-is) ∙ t)
+-- A pixel of a sprite of mode 3 changes nothing.
+putPixel-forbidden : (priority color : ℕ) (e : Entry) → putPixel ObjMode.Forbidden priority color e ≡ e
+unfolding putPixel passedOver written
+putPixel-forbidden priority color e = go (leb (e .priority) priority || isTransparent color)
+  where
+    go : (t : Bool) → cond t e e ≡ e
+    go true = refl
+    go false = refl
 
-    -- Where neither holds the pixel is written.
-    pub putPixel-some : {r : Entry} → (passed || clear) ≡ false → r ≡ written mode priority color e
-        → r ≡ putPixel mode priority color e
-    unfolding putPixel
-    putPixel-some t w = rw (sym (ap₂ _||_ passed-is clear-is) ∙ t) w
+-- An ordinary or a semi-transparent sprite's pixel is shown, and a window sprite's is marked.
+putPixel-shown : (alpha : Bool) (priority color : ℕ) (e : Entry)
+    → cond (leb (e .priority) priority || isTransparent color) e (shownBy alpha priority color e)
+    ≡ putPixel (cond alpha ObjMode.Sfx ObjMode.Normal) priority color e
+unfolding putPixel passedOver written
+putPixel-shown true priority color e = refl
+putPixel-shown false priority color e = refl
 
--- An entry that was read, changed by a pixel and put back.
-pub putColumn-made : (s : ObjAttrs) (color : ℕ) (entries : List ℕ) (column : ℕ) {e r : Entry} {m : List ℕ}
-    → e ≡ cellAt entryCells entries column → r ≡ putPixel (s .objmode) (s .priority) color e
-    → m ≡ putCell entryCells entries column r
-    → m ≡ putColumn s color entries column
-putColumn-made s color entries column e-is r-is m-is =
-    m-is ∙ ap (putCell entryCells entries column) (r-is ∙ ap (putPixel (s .objmode) (s .priority) color) e-is)
+putPixel-marked : (priority color : ℕ) (e : Entry)
+    → cond (isTransparent color) e (windowed e) ≡ putPixel ObjMode.Window priority color e
+unfolding putPixel passedOver written
+putPixel-marked priority color e = refl
 
--- A colour that was put is that of the sprite.
-pub putColumn-is : (s : ObjAttrs) (entries : List ℕ) (column : ℕ) {m : List ℕ} {z color : ℕ}
-    → m ≡ putColumn s z entries column → z ≡ color → m ≡ putColumn s color entries column
-putColumn-is s entries column e z-is = e ∙ ap (λ z. putColumn s z entries column) z-is
+module _ (priority color : ℕ) (entries : List ℕ) (column : ℕ) where
+  abbrev cell : Entry
+  cell = cellAt entryCells entries column
 
--- An entry in which a transparent pixel is put stays.
-pub putColumn-transparent : (s : ObjAttrs) (entries : List ℕ) (column : ℕ) {color : ℕ}
-    → ((i : ℕ) → Fits w8 (getD entries i 0)) → color ≡ transparent
-    → entries ≡ putColumn s color entries column
-putColumn-transparent s entries column bytes color-is =
-    sym (putCell-same entryCells entries column (exact-entryCells entries bytes column))
-    ∙ ap (putCell entryCells entries column) (sym (putPixel-transparent (s .objmode) (s .priority) _))
-    ∙ ap (λ z. putColumn s z entries column) (sym color-is)
+  module _ {e : Entry} {clear : Bool} (e-is : e ≡ cell) (clear-is : clear ≡ isTransparent color) where
+    -- An entry that was read, and then kept or put as it shows the pixel.
+    pub putColumn-shown : (alpha : Bool) {f : Entry} {m : List ℕ} → f ≡ shownBy alpha priority color e
+        → m ≡ putCell entryCells entries column (cond (leb (e .priority) priority || clear) cell f)
+        → m ≡ putColumn (cond alpha ObjMode.Sfx ObjMode.Normal) priority color entries column
+    putColumn-shown alpha {f} f-is m-is =
+        m-is
+        ∙ ap (putCell entryCells entries column)
+        (ap (λ e. cond (leb (e .priority) priority || clear) cell f) e-is
+        ∙ ap (λ t. cond (leb (cell .priority) priority || t) cell f) clear-is
+        ∙ ap (cond (leb (cell .priority) priority || isTransparent color) cell)
+        (f-is ∙ ap (shownBy alpha priority color) e-is)
+        ∙ putPixel-shown alpha priority color cell)
 
--- An entry for which the sprite is passed over stays, whatever the colour.
-pub putColumn-passed : (s : ObjAttrs) (color : ℕ) (entries : List ℕ) (column : ℕ) {e : Entry} {passed : Bool}
-    → ((i : ℕ) → Fits w8 (getD entries i 0))
-    → e ≡ cellAt entryCells entries column → passed ≡ passedOver (s .objmode) (s .priority) e → passed ≡ true
-    → entries ≡ putColumn s color entries column
-putColumn-passed s color entries column bytes e-is passed-is t =
-    sym (putCell-same entryCells entries column (exact-entryCells entries bytes column))
-    ∙ ap (putCell entryCells entries column)
-    (sym (putPixel-passed (s .objmode) (s .priority) color _
-    (ap (passedOver (s .objmode) (s .priority)) (sym e-is) ∙ sym passed-is ∙ t)))
+    -- An entry that was read, and then kept or put with the window mark.
+    pub putColumn-marked : {f : Entry} {m : List ℕ} → f ≡ windowed e
+        → m ≡ putCell entryCells entries column (cond clear cell f)
+        → m ≡ putColumn ObjMode.Window priority color entries column
+    putColumn-marked {f} f-is m-is =
+        m-is
+        ∙ ap (putCell entryCells entries column)
+        (ap (λ t. cond t cell f) clear-is
+        ∙ ap (cond (isTransparent color) cell) (f-is ∙ ap windowed e-is)
+        ∙ putPixel-marked priority color cell)
+
+-- ---- a loop over a box's columns
+
+module _ (mode : ObjMode) (priority : ℕ) (color : ℕ → ℕ) where
+  -- The columns from start up to k are put; no loop goes to those before start or from end on.
+  abbrev pub PutPart : ℕ → ℕ → List ℕ → ℕ → List ℕ → Type 0
+  PutPart = PassedPart entryCells (λ k. putPixel mode priority (color k)) 240
+
+  pub putPart-from : (start end : ℕ) (entries : List ℕ) → length entries ≡ 960 → start ≤ 240
+      → ((i : ℕ) → Fits w8 (getD entries i 0))
+      → PutPart start end entries start entries
+  putPart-from start end entries size start≤ bytes =
+      passed-from entryCells size start≤ (λ k k<. exact-entryCells entries bytes k)
+
+  -- A turn.
+  pub putPart-inside : {start end k : ℕ} {entries l m : List ℕ}
+      → PutPart start end entries k l → k < end → end ≤ 240 → m ≡ putColumn mode priority (color k) l k
+      → PutPart start end entries (k + 1) m
+  putPart-inside part k< end≤ put-is = passed-inside entryCells part k< end≤ put-is refl
+
+module _ (priority : ℕ) (colors : List Rgb15) (left start end : ℕ) (entries : List ℕ) where
+  -- The mode that a match found.
+  pub putBox-mode : {mode found : ObjMode} {m : List ℕ} → mode ≡ found
+      → m ≡ putBox found priority colors left start end entries
+      → m ≡ putBox mode priority colors left start end entries
+  putBox-mode mode-is put-is = put-is ∙ ap (λ mode. putBox mode priority colors left start end entries) (sym mode-is)
+
+  -- A window sprite's priority is any.
+  pub putBox-window : {m : List ℕ} → m ≡ putBox ObjMode.Window 0 colors left start end entries
+      → m ≡ putBox ObjMode.Window priority colors left start end entries
+  putBox-window put-is =
+      put-is
+      ∙ mapRow-cong entryCells _ _ 240 entries
+      (λ k k< e.
+      let color = getD colors (k + 272 - left) (rgb 0) .0 in
+      ap (λ put. cond (between start end k) put e) (sym (putPixel-marked 0 color e) ∙ putPixel-marked priority color e))
+
+  -- A sprite of mode 3 leaves the row.
+  pub putBox-forbidden : ((i : ℕ) → Fits w8 (getD entries i 0))
+      → entries ≡ putBox ObjMode.Forbidden priority colors left start end entries
+  putBox-forbidden bytes =
+      sym
+      (mapRow-same entryCells _ 240 entries
+      (λ k k<. exact-entryCells entries bytes k)
+      (λ k k<. go k (between start end k)))
+    where
+      go : (k : ℕ) (t : Bool)
+          → cond t (putPixel ObjMode.Forbidden priority (getD colors (k + 272 - left) (rgb 0) .0) (cellAt entryCells entries k))
+          (cellAt entryCells entries k)
+          ≡ cellAt entryCells entries k
+      go k true = putPixel-forbidden priority _ _
+      go k false = refl
+
+-- ---- the columns that a sprite leaves
 
 -- A sprite that has no pixel leaves the row.
 pub putRow-none : (s : ObjAttrs) (color : ℕ → ℕ) (entries : List ℕ) → ((i : ℕ) → Fits w8 (getD entries i 0))
@@ -135,48 +154,63 @@ putRow-none s color entries bytes none =
     ap (λ c. putPixel (s .objmode) (s .priority) c (cellAt entryCells entries k)) (none k k<)
     ∙ putPixel-transparent (s .objmode) (s .priority) _))
 
--- ---- a loop over a sprite's columns
+-- A sprite with no pixel outside the columns from start up to end, of which it is passed over from start up to a and from b on.
+module _ (s : ObjAttrs) (color : ℕ → ℕ) (entries : List ℕ) {start end : ℕ} (a b : ℕ)
+    (none : (k : ℕ) → k < 240 → between start end k ≡ false → color k ≡ transparent)
+    (first : AllPassedOver entries s start a) (last : AllPassedOver entries s b end) where
+  -- The entry of a column is kept.
+  abbrev Kept : ℕ → Type 0
+  Kept k = putPixel (s .objmode) (s .priority) (color k) (cellAt entryCells entries k) ≡ cellAt entryCells entries k
 
-module _ (s : ObjAttrs) (color : ℕ → ℕ) where
-  -- The columns from start up to k are put; no loop goes to those before start or from end on.
-  abbrev pub PutPart : ℕ → ℕ → List ℕ → ℕ → List ℕ → Type 0
-  PutPart start end entries₀ k entries =
-      PassedPart entryCells (λ k. putPixel (s .objmode) (s .priority) (color k)) 240 start end entries₀ k entries
+  kept-outside : (k : ℕ) → k < 240 → between start end k ≡ false → Kept k
+  kept-outside k k< out =
+      ap (λ c. putPixel (s .objmode) (s .priority) c (cellAt entryCells entries k)) (none k k< out)
+      ∙ putPixel-transparent (s .objmode) (s .priority) _
 
-  pub putPart-from : (start end : ℕ) (entries : List ℕ) → length entries ≡ 960 → start ≤ 240
-      → ((i : ℕ) → Fits w8 (getD entries i 0))
-      → PutPart start end entries start entries
-  putPart-from start end entries size start≤ bytes =
-      passed-from entryCells size start≤ (λ k k<. exact-entryCells entries bytes k)
-
-  -- A turn, which put the colour z.
-  pub putPart-inside : {start end k z : ℕ} {entries₀ l m : List ℕ}
-      → PutPart start end entries₀ k l → k < end → end ≤ 240 → m ≡ putColumn s z l k → z ≡ color k
-      → PutPart start end entries₀ (k + 1) m
-  putPart-inside {k = k} {l = l} part k< end≤ put-is z-is =
-      passed-inside entryCells part k< end≤ put-is
-      (ap (λ z. putPixel (s .objmode) (s .priority) z (cellAt entryCells l k)) z-is)
-
-  -- Where the columns from start up to end were put, all are, if those have the sprite's colours and no other has a pixel.
-  pub putRow-part : (z : ℕ → ℕ) (start end : ℕ) (entries : List ℕ) {m : List ℕ}
-      → m ≡ mapRow entryCells (only (between start end) (λ k. putPixel (s .objmode) (s .priority) (z k))) 240 entries
-      → ((k : ℕ) → k < 240 → between start end k ≡ true → z k ≡ color k)
-      → ((k : ℕ) → k < 240 → between start end k ≡ false → color k ≡ transparent)
-      → m ≡ putRow s color entries
-  putRow-part z start end entries put-is same none =
-      put-is ∙ mapRow-cong entryCells _ _ 240 entries (λ k k< e. go k k< e (between start end k) refl)
+  kept-before : (k : ℕ) → k < 240 → k < a → Kept k
+  kept-before k k< k<a = go (ltb k start) refl
     where
-      go : (k : ℕ) → k < 240 → (e : Entry) (t : Bool) → between start end k ≡ t
-          → cond t (putPixel (s .objmode) (s .priority) (z k) e) e ≡ putPixel (s .objmode) (s .priority) (color k) e
-      go k k< e true t = ap (λ c. putPixel (s .objmode) (s .priority) c e) (same k k< t)
-      go k k< e false t =
-          sym (putPixel-transparent (s .objmode) (s .priority) e)
-          ∙ ap (λ c. putPixel (s .objmode) (s .priority) c e) (sym (none k k< t))
+      go : (t : Bool) → ltb k start ≡ t → Kept k
+      go true t = kept-outside k k< (between-before start end k (ltb-true k start t))
+      go false t = putPixel-passed (s .objmode) (s .priority) (color k) _ (first k (ltb-false k start t) k<a)
 
-  -- Where the loop ends every column is put, if the sprite has no pixel in those that the loop left out.
-  pub putPart-to : {start end k : ℕ} {entries₀ l : List ℕ}
-      → PutPart start end entries₀ k l → end ≤ k
-      → ((k : ℕ) → k < 240 → between start end k ≡ false → color k ≡ transparent)
-      → l ≡ putRow s color entries₀
-  putPart-to {start} {end} {entries₀ = entries₀} part k≤ none =
-      putRow-part color start end entries₀ (passed-to entryCells part k≤) (λ k k< t. refl) none
+  kept-past : (k : ℕ) → k < 240 → b ≤ k → Kept k
+  kept-past k k< k≥b = go (ltb k end) refl
+    where
+      go : (t : Bool) → ltb k end ≡ t → Kept k
+      go true t = putPixel-passed (s .objmode) (s .priority) (color k) _ (last k k≥b (ltb-true k end t))
+      go false t = kept-outside k k< (between-past start end k (ltb-false k end t))
+
+  -- Where no column is left between, the row stays.
+  pub putRow-closed : ((i : ℕ) → Fits w8 (getD entries i 0)) → b ≤ a → entries ≡ putRow s color entries
+  putRow-closed bytes b≤a =
+      sym (mapRow-same entryCells _ 240 entries (λ k k<. exact-entryCells entries bytes k) (λ k k<. go k k< (ltb k a) refl))
+    where
+      go : (k : ℕ) → k < 240 → (t : Bool) → ltb k a ≡ t → Kept k
+      go k k< true t = kept-before k k< (ltb-true k a t)
+      go k k< false t = kept-past k k< (omega (arith, ltb-false k a t))
+
+  -- Where the sprite's colours are put in the columns between, all its pixels are put.
+  pub putRow-open : (colors : List Rgb15) (left : ℕ) {m : List ℕ} → length entries ≡ 960
+      → m ≡ putBox (s .objmode) (s .priority) colors left a b entries
+      → ((k : ℕ) → a ≤ k → k < b → getD colors (k + 272 - left) (rgb 0) .0 ≡ color k)
+      → m ≡ putRow s color entries
+  putRow-open colors left size put-is same =
+      put-is ∙ mapRow-ext entryCells _ _ 240 entries size (λ k k<. go k k< (ltb k a) (ltb k b) refl refl)
+    where
+      Same : ℕ → Type 0
+      Same k =
+          only (between a b) (λ k. putPixel (s .objmode) (s .priority) (getD colors (k + 272 - left) (rgb 0) .0)) k
+          (cellAt entryCells entries k)
+          ≡ putPixel (s .objmode) (s .priority) (color k) (cellAt entryCells entries k)
+
+      go : (k : ℕ) → k < 240 → (t u : Bool) → ltb k a ≡ t → ltb k b ≡ u → Same k
+      go k k< true u t h =
+          let before = ltb-true k a t in rw (between-before a b k before) (sym (kept-before k k< before))
+      go k k< false true t h =
+          let from = ltb-false k a t in
+          let to = ltb-true k b h in
+          rw (between-inside a b k from to)
+          (ap (λ c. putPixel (s .objmode) (s .priority) c (cellAt entryCells entries k)) (same k from to))
+      go k k< false false t h =
+          let past = ltb-false k b h in rw (between-past a b k past) (sym (kept-past k k< past))

@@ -1,11 +1,10 @@
 -- Laws of well-shaped entries: the pass keeps a row so. No contract cites this file. Assumes nothing.
-use Prim.Native.Nat.{ℕ, zero, suc, _+_, _*_, _/_, _%_, _≤_}
+use Prim.Native.Nat.{ℕ, zero, suc, _≤_}
 use native.Mathlib.Omega.{arith}
 use mathlib.Core.Path.{_≡_, refl, ap, _∙_}
 use mathlib.Core.Bool.{Bool, true, false, cond, _||_}
 use mathlib.Core.Logic.{inl, inr}
 use mathlib.Core.List.{List}
-use lib.Dec.{eqb}
 use Rattle.rgb15.specs.Colour.{isTransparent}
 use Rattle.rows.proofs.Below.{allBelow-at, allBelow-ext}
 use Rattle.rows.proofs.Cells.{cellAt-rowOf}
@@ -19,6 +18,7 @@ use Rattle.sprites.specs.declared.attrs.ObjMode.{ObjMode}
 use Rattle.sprites.proofs.Clean.{Clean, clean-sprite}
 use Rattle.sprites.proofs.Decode.{priority-bound}
 use Rattle.obj.specs.Put.{passedOver, shownBy, windowed, written, putPixel, spriteStep, entryUpTo, putSprites}
+use Rattle.obj.proofs.Marks.{semi-put-other, semi-put-bound}
 
 -- ---- what a pixel makes of a well-shaped entry
 
@@ -29,20 +29,20 @@ or-second false b e = e
 wellShaped-windowed : (e : Entry) → Shape e → wellShaped (windowed e) ≡ true
 unfolding windowed
 wellShaped-windowed e (marks≤, inl blank) =
-    let mark : (e .marks / 4 * 4 + 2 + e .marks % 2) / 1 % 2 ≡ e .marks / 1 % 2 = omega arith in
-    wellShaped-blank (windowed e) (omega arith) (blank .0) (blank .1) (ap (λ n. eqb n 1) mark ∙ blank .2)
+    wellShaped-blank (windowed e) (omega arith) (blank .0) (blank .1) (semi-put-other (e .marks) ∙ blank .2)
 wellShaped-windowed e (marks≤, inr shown) = wellShaped-shown (windowed e) (omega arith) (shown .0) (shown .1)
 
 module _ (priority color : ℕ) (e : Entry) (priority≤ : priority ≤ 3) (clean : Clean color) (shaped : wellShaped e ≡ true) where
-  wellShaped-shownBy : (semi : ℕ) → semi ≤ 1 → isTransparent color ≡ false → wellShaped (shownBy semi priority color e) ≡ true
+  wellShaped-shownBy : (semi : Bool) → isTransparent color ≡ false → wellShaped (shownBy semi priority color e) ≡ true
   unfolding shownBy
-  wellShaped-shownBy semi semi≤ opaque =
-      wellShaped-shown (shownBy semi priority color e) (omega (arith, shape-of e shaped .0)) priority≤ (clean opaque)
+  wellShaped-shownBy semi opaque =
+      wellShaped-shown (shownBy semi priority color e) (semi-put-bound semi (e .marks) (shape-of e shaped .0)) priority≤
+      (clean opaque)
 
   wellShaped-written : (mode : ObjMode) → isTransparent color ≡ false → wellShaped (written mode priority color e) ≡ true
   unfolding written
-  wellShaped-written ObjMode.Normal opaque = wellShaped-shownBy 0 (omega arith) opaque
-  wellShaped-written ObjMode.Sfx opaque = wellShaped-shownBy 1 (omega arith) opaque
+  wellShaped-written ObjMode.Normal opaque = wellShaped-shownBy false opaque
+  wellShaped-written ObjMode.Sfx opaque = wellShaped-shownBy true opaque
   wellShaped-written ObjMode.Window opaque = wellShaped-windowed e (shape-of e shaped)
   wellShaped-written ObjMode.Forbidden opaque = shaped
 

@@ -12,7 +12,7 @@ use mir.Val.{Fits}
 use denote.Enum.Declared.{tagOf}
 use types.Run.{OneOf, miss}
 use Rattle.rows.specs.Cells.{mapRow}
-use Rattle.rows.proofs.Cells.{mapRow-all, mapRow-cong, mapRow-same}
+use Rattle.rows.proofs.Cells.{mapRow-all, mapRow-cong}
 use Rattle.rows.proofs.Passed.{Composed, composed-none, composed-more}
 use Rattle.memory.specs.Memory.{Memory}
 use Rattle.regs.specs.Registers.{dispcnt}
@@ -25,9 +25,9 @@ use Rattle.sprites.specs.Attrs.{sprite}
 use Rattle.sprites.specs.Color.{affineColor}
 use Rattle.sprites.specs.Tiles.{tilesStart}
 use Rattle.sprites.specs.Sprite.{Source, source, drawn, typedColor, spriteColor}
-use Rattle.obj.specs.Skip.{NoneDrawn}
 use Rattle.entries.specs.Entry.{entryCells}
-use Rattle.obj.specs.Put.{putPixel, putRow, spriteStep, entryUpTo, putSprites}
+use Rattle.obj.specs.Put.{putPixel, spriteStep, entryUpTo, putSprites}
+use Rattle.obj.specs.Steps.{putRow, NoneDrawn, NextDrawn}
 use Rattle.sprites.specs.declared.attrs.ObjAttrs.{ObjAttrs}
 use Rattle.sprites.specs.declared.attrs.ObjType.{ObjType}
 use Rattle.entries.specs.declared.Entry.{Entry}
@@ -35,15 +35,15 @@ use Rattle.sprites.proofs.attrs.ObjType.{the-type}
 use Rattle.entries.proofs.Entries.{exact-entryCells}
 use Rattle.obj.proofs.Pixels.{putPixel-transparent}
 
--- The colours of a sprite, by its type.
-pub putRow-typed : (reading : Reading) (mapping : ObjMapping) (vram palette oam : List ℕ) (s : ObjAttrs) (line : ℕ)
-    (entries : List ℕ)
-    {type : ObjType} {m : List ℕ} → s .objtype ≡ type
+-- The colours of a sprite that was read, by its type.
+pub putRow-typed : (reading : Reading) (mapping : ObjMapping) (vram palette oam : List ℕ) (line : ℕ) (entries : List ℕ)
+    {s t : ObjAttrs} {type : ObjType} {m : List ℕ} → s ≡ t → s .objtype ≡ type
     → m ≡ putRow s (typedColor type reading mapping vram palette oam s line) entries
-    → m ≡ putRow s (typedColor (s .objtype) reading mapping vram palette oam s line) entries
-putRow-typed reading mapping vram palette oam s line entries type-is put-is =
+    → m ≡ putRow t (typedColor (t .objtype) reading mapping vram palette oam t line) entries
+putRow-typed reading mapping vram palette oam line entries {s} s-is type-is put-is =
     put-is
     ∙ ap (λ type. putRow s (typedColor type reading mapping vram palette oam s line) entries) (sym type-is)
+    ∙ ap (λ s. putRow s (typedColor (s .objtype) reading mapping vram palette oam s line) entries) s-is
 
 -- Both affine types have the colours of affine sprites; their numbers among the variants are 1 and 3.
 pub putRow-affine : (reading : Reading) (mapping : ObjMapping) (vram palette oam : List ℕ) (s : ObjAttrs) (line : ℕ)
@@ -58,6 +58,11 @@ putRow-affine reading mapping vram palette oam s line entries ObjType.Hidden one
 putRow-affine reading mapping vram palette oam s line entries ObjType.AffineDoubleSize one put-is = put-is
 
 module _ (reading : Reading) (o : Source) (line n : ℕ) where
+  -- The colours of a sprite that is drawn.
+  abbrev pub drawnColor : ℕ → ℕ
+  drawnColor =
+      let s = sprite (o .oam) n in typedColor (s .objtype) reading (o .mapping) (o .vram) (o .palette) (o .oam) s line
+
   -- A sprite that is not drawn changes nothing.
   spriteStep-none : drawn reading (o .start) (sprite (o .oam) n) line ≡ false
       → (column : ℕ) (e : Entry) → spriteStep reading o line n column e ≡ e
@@ -65,27 +70,17 @@ module _ (reading : Reading) (o : Source) (line n : ℕ) where
   spriteStep-none out column e = rw out (putPixel-transparent _ _ e)
 
   -- One that is drawn puts its colour.
-  spriteStep-drawn : {s : ObjAttrs} → s ≡ sprite (o .oam) n → drawn reading (o .start) s line ≡ true
+  spriteStep-drawn : drawn reading (o .start) (sprite (o .oam) n) line ≡ true
       → (column : ℕ) (e : Entry)
-      → putPixel (s .objmode) (s .priority)
-      (typedColor (s .objtype) reading (o .mapping) (o .vram) (o .palette) (o .oam) s line column) e
+      → putPixel (sprite (o .oam) n .objmode) (sprite (o .oam) n .priority) (drawnColor column) e
       ≡ spriteStep reading o line n column e
   unfolding spriteStep spriteColor
-  spriteStep-drawn s-is d column e = rw (sym s-is, d)
+  spriteStep-drawn d column e = rw d
 
-  module _ (entries : List ℕ) where
-    pub step-none : ((i : ℕ) → Fits w8 (getD entries i 0)) → drawn reading (o .start) (sprite (o .oam) n) line ≡ false
-        → entries ≡ mapRow entryCells (spriteStep reading o line n) 240 entries
-    step-none bytes out =
-        sym
-        (mapRow-same entryCells (spriteStep reading o line n) 240 entries
-        (λ k k<. exact-entryCells entries bytes k)
-        (λ k k<. spriteStep-none out k _))
-
-    pub step-drawn : {s : ObjAttrs} {m : List ℕ} → s ≡ sprite (o .oam) n → drawn reading (o .start) s line ≡ true
-        → m ≡ putRow s (typedColor (s .objtype) reading (o .mapping) (o .vram) (o .palette) (o .oam) s line) entries
-        → m ≡ mapRow entryCells (spriteStep reading o line n) 240 entries
-    step-drawn s-is d put-is = put-is ∙ mapRow-cong entryCells _ _ 240 entries (λ k k< e. spriteStep-drawn s-is d k e)
+  step-drawn : (l : List ℕ) {m : List ℕ} → drawn reading (o .start) (sprite (o .oam) n) line ≡ true
+      → m ≡ putRow (sprite (o .oam) n) drawnColor l
+      → m ≡ mapRow entryCells (spriteStep reading o line n) 240 l
+  step-drawn l d put-is = put-is ∙ mapRow-cong entryCells _ _ 240 l (λ k k< e. spriteStep-drawn d k e)
 
 module _ (reading : Reading) (o : Source) (line : ℕ) where
   entryUpTo-none : (column : ℕ) (e : Entry) → entryUpTo reading o line 0 column e ≡ e
@@ -98,53 +93,61 @@ module _ (reading : Reading) (o : Source) (line : ℕ) where
   entryUpTo-more n column e = ap (λ k. entryUpTo reading o line k column e) (sym (add-one n))
 
   -- Sprites that are not drawn change nothing: n of them from a on, and those from a up to b.
-  entryUpTo-idle : (a n column : ℕ) (e : Entry) → NoneDrawn (o .oam) line a (a + n)
+  entryUpTo-idle : (a n column : ℕ) (e : Entry) → NoneDrawn reading (o .start) (o .oam) line a (a + n)
       → entryUpTo reading o line a column e ≡ entryUpTo reading o line (a + n) column e
   unfolding entryUpTo
   entryUpTo-idle a zero column e none =
       let same : a ≡ a + 0 = omega arith in ap (λ k. entryUpTo reading o line k column e) same
   entryUpTo-idle a (suc n) column e none =
       let next : suc (a + n) ≡ a + suc n = omega arith in
-      entryUpTo-idle a n column e (λ reading start k from to. none reading start k from (omega arith))
-      ∙ sym (spriteStep-none reading o line (a + n) (none reading (o .start) (a + n) (omega arith) (omega arith)) column _)
+      entryUpTo-idle a n column e (λ k from to. none k from (omega arith))
+      ∙ sym (spriteStep-none reading o line (a + n) (none (a + n) (omega arith) (omega arith)) column _)
       ∙ ap (λ k. entryUpTo reading o line k column e) next
 
-  entryUpTo-rest : (a b column : ℕ) (e : Entry) → a ≤ b → NoneDrawn (o .oam) line a b
+  entryUpTo-rest : (a b column : ℕ) (e : Entry) → a ≤ b → NoneDrawn reading (o .start) (o .oam) line a b
       → entryUpTo reading o line a column e ≡ entryUpTo reading o line b column e
   entryUpTo-rest a b column e h none =
       let end : a + (b - a) ≡ b = omega arith in
-      entryUpTo-idle a (b - a) column e (λ reading start k from to. none reading start k from (omega arith))
+      entryUpTo-idle a (b - a) column e (λ k from to. none k from (omega arith))
       ∙ ap (λ k. entryUpTo reading o line k column e) end
 
-  -- What the sprites before number n made of each column.
-  abbrev pub SpritesUpTo : List ℕ → ℕ → List ℕ → Type 0
-  SpritesUpTo = Composed entryCells (entryUpTo reading o line) 240 128
+  -- What the sprites before number n made of each column; sprite n, if there is one, is drawn.
+  pub record SpritesUpTo (l₀ : List ℕ) (n : ℕ) (l : List ℕ) : Type 0 where
+    pub composed : Composed entryCells (entryUpTo reading o line) 240 128 l₀ n l
+    pub next : n < 128 → drawn reading (o .start) (sprite (o .oam) n) line ≡ true
 
   -- The row after sprites that are not drawn is the row before them.
-  sprites-skip : {a b : ℕ} {l₀ l : List ℕ} → SpritesUpTo l₀ a l → (a ≤ b) × (b ≤ 128) × NoneDrawn (o .oam) line a b
+  sprites-skip : {a b : ℕ} {l₀ l : List ℕ} → Composed entryCells (entryUpTo reading o line) 240 128 l₀ a l
+      → NextDrawn reading (o .start) (o .oam) line a b
       → SpritesUpTo l₀ b l
   sprites-skip {a} {b} {l₀} p next =
       record {
-        bound = next .1;
-        size = p .size;
-        made = p .made ∙ mapRow-cong entryCells _ _ 240 l₀ (λ k k< e. entryUpTo-rest a b k e (next .0) (next .2));
+        composed =
+            record {
+              bound = next .1;
+              size = p .size;
+              made = p .made ∙ mapRow-cong entryCells _ _ 240 l₀ (λ k k< e. entryUpTo-rest a b k e (next .0) (next .2));
+            };
+        next = next .3;
       }
 
   -- Where the pass begins: the first sprites are passed by up to a.
   pub sprites-first : {a : ℕ} {l : List ℕ} → length l ≡ 960 → ((i : ℕ) → Fits w8 (getD l i 0))
-      → (0 ≤ a) × (a ≤ 128) × NoneDrawn (o .oam) line 0 a
+      → NextDrawn reading (o .start) (o .oam) line 0 a
       → SpritesUpTo l a l
   sprites-first {l = l} size bytes next =
       sprites-skip (composed-none entryCells size (λ k k<. exact-entryCells l bytes k) entryUpTo-none) next
 
   -- A turn: sprite a is put, and those after it are passed by up to b.
-  pub sprites-next : {a b : ℕ} {l₀ l m : List ℕ} → SpritesUpTo l₀ a l → a < 128
-      → m ≡ mapRow entryCells (spriteStep reading o line a) 240 l
-      → (a + 1 ≤ b) × (b ≤ 128) × NoneDrawn (o .oam) line (a + 1) b
+  pub sprites-next : {a b : ℕ} {l₀ l m : List ℕ} → SpritesUpTo l₀ a l → (a< : a < 128)
+      → m ≡ putRow (sprite (o .oam) a) (drawnColor reading o line a) l
+      → NextDrawn reading (o .start) (o .oam) line (a + 1) b
       → SpritesUpTo l₀ b m
-  sprites-next {a} p a< m-is next =
+  sprites-next {a} p a< put-is next =
       sprites-skip
-      (composed-more entryCells (spriteStep reading o line a) p a< m-is (λ k k< e. entryUpTo-more a k e))
+      (composed-more entryCells (spriteStep reading o line a) (p .composed) a<
+      (step-drawn reading o line a _ (p .next a<) put-is)
+      (λ k k< e. entryUpTo-more a k e))
       next
 
 -- The source of the lent memory, by the display control that was read.

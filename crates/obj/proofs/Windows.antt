@@ -1,10 +1,9 @@
 -- Laws of the window mark: it tells whether a window sprite had an opaque pixel.
 -- No contract cites this file. Assumes nothing.
-use Prim.Native.Nat.{ℕ, zero, suc, _+_, _*_, _/_, _%_, _≤_}
-use native.Mathlib.Omega.{arith}
+use Prim.Native.Nat.{ℕ, zero, suc}
 use mathlib.Core.Path.{_≡_, refl, sym, ap, _∙_}
 use mathlib.Core.Bool.{Bool, true, false, not, cond, _&&_, _||_, or-true, or-false, or-assoc}
-use lib.Dec.{eqb, leb}
+use lib.Dec.{leb}
 use Rattle.rgb15.specs.Colour.{isTransparent}
 use Rattle.sprites.specs.Attrs.{sprite}
 use Rattle.sprites.specs.Sprite.{source, isWindow}
@@ -13,20 +12,17 @@ use Rattle.obj.specs.Put.{passedOver, shownBy, windowed, written, putPix
 use Rattle.obj.specs.Order.{Draw, isOpaque, windowUpTo}
 use Rattle.sprites.specs.declared.attrs.ObjMode.{ObjMode}
 use Rattle.entries.specs.declared.Entry.{Entry}
+use Rattle.obj.proofs.Marks.{window-put-same, window-put-other}
 
 -- A pixel that is shown leaves the window mark.
-windowMark-shownBy : (semi priority color : ℕ) (e : Entry) → semi ≤ 1
+windowMark-shownBy : (semi : Bool) (priority color : ℕ) (e : Entry)
     → windowMark (shownBy semi priority color e) ≡ windowMark e
 unfolding shownBy
-windowMark-shownBy semi priority color e semi≤ =
-    let mark : (e .marks / 2 * 2 + semi) / 2 % 2 ≡ e .marks / 2 % 2 = omega arith in
-    ap (λ n. eqb n 1) mark
+windowMark-shownBy semi priority color e = window-put-other semi (e .marks)
 
 windowMark-windowed : (e : Entry) → windowMark (windowed e) ≡ true
 unfolding windowed
-windowMark-windowed e =
-    let mark : (e .marks / 4 * 4 + 2 + e .marks % 2) / 2 % 2 ≡ 1 = omega arith in
-    ap (λ n. eqb n 1) mark
+windowMark-windowed e = window-put-same (e .marks)
 
 cond-either : {A B : Type 0} (f : A → B) (t : Bool) (a b : A) → f b ≡ f a → f (cond t a b) ≡ f a
 cond-either f true a b e = refl
@@ -38,11 +34,11 @@ module _ (priority color : ℕ) (e : Entry) where
   unfolding putPixel passedOver written isWindow
   windowMark-put ObjMode.Normal clear t =
       cond-either windowMark (leb (e .priority) priority || isTransparent color) e _
-      (windowMark-shownBy 0 priority color e (omega arith))
+      (windowMark-shownBy false priority color e)
       ∙ sym (or-false (windowMark e))
   windowMark-put ObjMode.Sfx clear t =
       cond-either windowMark (leb (e .priority) priority || isTransparent color) e _
-      (windowMark-shownBy 1 priority color e (omega arith))
+      (windowMark-shownBy true priority color e)
       ∙ sym (or-false (windowMark e))
   windowMark-put ObjMode.Window true t = rw t (sym (or-false (windowMark e)))
   windowMark-put ObjMode.Window false t = rw t (windowMark-windowed e ∙ sym (or-true (windowMark e)))

@@ -1,47 +1,34 @@
-// The pass over sprites (gpu/render/obj.rs): which of their pixels a row of entries shows. The search
-// for the next sprite has a file of its own.
+// The pass over sprites (gpu/render/obj.rs): which of their pixels a row of entries shows.
 ghost use mathlib.Core.Path.{_≡_};
-ghost use mathlib.Core.Bool.{true};
-ghost use Prim.Native.Nat.{_+_, _-_, _%_, _^_, _≤_, _<_, min};
-ghost use lib.IntN.{subℕ};
-ghost use lib.ListN.{length, getD};
-ghost use Rattle.rgb15.specs.Colour.{rgb};
+ghost use mathlib.Core.Bool.{true, cond};
+ghost use Prim.Native.Nat.{_+_, _-_, _%_, _≤_, _<_, min};
+ghost use lib.ListN.{length};
 ghost use Rattle.memory.specs.Sizes.{videoRamSize, paletteRamSize, oamSize, registersSize};
-ghost use Rattle.rows.specs.Below.{between};
-ghost use Rattle.rows.specs.Cells.{only, mapRow};
-ghost use Rattle.entries.specs.Entry.{entriesSize, entryCells};
+ghost use Rattle.entries.specs.Entry.{entriesSize};
 ghost use Rattle.sprites.specs.Oam.{matrix};
-ghost use Rattle.sprites.specs.Attrs.{Decoded};
+ghost use Rattle.sprites.specs.Attrs.{sprite, Decoded};
 ghost use Rattle.sprites.specs.Place.{onLine};
-ghost use Rattle.sprites.specs.Color.{normalColor, colorAt, affineColor};
+ghost use Rattle.sprites.specs.Color.{normalColor, affineColor};
 ghost use Rattle.sprites.specs.Sprite.{source, typedColor};
-ghost use Rattle.texels.specs.Turn.{pointAt, Ranged};
-ghost use Rattle.obj.specs.Put.{passedOver, shownBy, windowed, written, putPixel};
-ghost use Rattle.obj.specs.Put.{putColumn, putRow, spriteStep, putSprites};
-
-mod next;
-
+ghost use Rattle.obj.specs.Put.{shownBy, windowed, putSprites};
+ghost use Rattle.obj.specs.Steps.{putColumn, putRow, putBox, Closed, AllPassedOver, NextDrawn};
 use entries::Entry;
 use entries::entry_at;
-use entries::put_entry;
+use entries::put_unless;
 use memory::DISPLAY_WIDTH;
-use next::next_obj;
 use regs::ObjMapping;
 use regs::Reading;
 use regs::iodev::read_dispcnt;
 use rgb15::Rgb15;
 use sprites::OBJ_COUNT;
 use sprites::ObjAttrs;
+use sprites::ObjMode;
 use sprites::ObjType;
 use sprites::X_BIAS;
 use sprites::flip;
-use sprites::is_inside;
 use sprites::obj_tiles_start;
 use sprites::read_obj_attrs;
-use sprites::read_texel;
-use texels::POINT_BIAS;
-use texels::Turn;
-use texels::point_at;
+use texels::affine_row;
 use texels::texel_row;
 use texels::turn_line;
 
@@ -66,54 +53,63 @@ fn end_column(right: usize) -> usize
     }
 }
 
-// A sprite's pixel put in the entry of a column.
-fn put_column(entries: &mut [u8], attrs: ObjAttrs, column: usize, pixel_color: Rgb15)
-    requires { ⌜ (length (now entries) ≡ entriesSize) × (column < 240) ⌝ }
-    ensures { λ _.
-        ⌜ now (entries .exit) ≡ putColumn attrs («pixel_color» .0) (now (entries .entry)) column ⌝ }
-{
-    let e = entry_at(entries, column);
-    put_entry(entries, column, put_obj_pixel(e, pixel_color, attrs));
+// Columns from start up to end.
+struct Span {
+    pub start: usize,
+    pub end: usize,
 }
 
-// Column i of an affine sprite's box, put at a column of the screen: nothing is read or put where its point is outside, and
-// where it is inside the entry is asked before the texel is read, which costs more.
-fn render_affine_column(
-    entries: &mut [u8],
-    vram: &[u8],
-    palette: &[u8],
-    attrs: ObjAttrs,
-    reading: Reading,
-    mapping: ObjMapping,
-    turn: Turn,
-    column: usize,
-    i: usize,
-)
-    requires { ⌜ (length (now entries) ≡ entriesSize)
-        × (length (now vram) ≡ videoRamSize)
-        × (length (now palette) ≡ paletteRamSize)
-        × Decoded attrs
-        × Ranged turn
-        × (column < 240)
-        × (i ≤ 127) ⌝ }
-    ensures { λ _.
-        ⌜ now (entries .exit)
-        ≡ putColumn attrs
-        (colorAt reading mapping (now (vram .entry)) (now (palette .entry)) attrs
-        (subℕ (pointAt (turn .x) (turn .pa) i (attrs .width)) (2 ^ 16))
-        (subℕ (pointAt (turn .y) (turn .pc) i (attrs .height)) (2 ^ 16)))
-        (now (entries .entry)) column ⌝ }
+// The first column from start up to end whose entry's priority is above a sprite's, or end.
+fn first_open(entries: &[u8], priority: u8, start: usize, end: usize) -> usize
+    requires { ⌜ (length (now entries) ≡ entriesSize) × (start ≤ end) × (end ≤ 240) ⌝ }
+    ensures { λ r. ⌜ (start ≤ r) × (r ≤ end) × Closed (now (entries .entry)) priority start r ⌝ }
 {
-    let x = point_at(turn.x, turn.pa, i, attrs.width);
-    let y = point_at(turn.y, turn.pc, i, attrs.height);
-    if is_inside(x, POINT_BIAS, attrs.width) & is_inside(y, POINT_BIAS, attrs.height) {
-        if is_passed_over(entry_at(entries, column), attrs) {
-            return;
+    let mut column = start;
+    while column < end {
+        if priority < entry_at(entries, column).priority {
+            return column;
         }
-        let sprite_x = x - POINT_BIAS;
-        let sprite_y = y - POINT_BIAS;
-        let pixel_color = read_texel(vram, palette, attrs, reading, mapping, sprite_x, sprite_y);
-        put_column(entries, attrs, column, pixel_color);
+        column += 1;
+    }
+    column
+}
+
+// The column past the last one from start up to end whose entry's priority is above a sprite's, or start.
+fn last_open(entries: &[u8], priority: u8, start: usize, end: usize) -> usize
+    requires { ⌜ (length (now entries) ≡ entriesSize) × (start ≤ end) × (end ≤ 240) ⌝ }
+    ensures { λ r. ⌜ (start ≤ r) × (r ≤ end) × Closed (now (entries .entry)) priority r end ⌝ }
+{
+    let mut past = end;
+    while start < past {
+        let last = past - 1;
+        if priority < entry_at(entries, last).priority {
+            return past;
+        }
+        past = last;
+    }
+    past
+}
+
+// The columns from start up to end without those at both ends where the sprite is passed over: no colour is read for them.
+fn open_columns(entries: &[u8], attrs: ObjAttrs, start: usize, end: usize) -> Span
+    requires { ⌜ (length (now entries) ≡ entriesSize) × (start ≤ end) × (end ≤ 240) ⌝ }
+    ensures { λ r.
+        ⌜ (start ≤ r .start)
+        × (r .start ≤ r .end)
+        × (r .end ≤ end)
+        × AllPassedOver (now (entries .entry)) attrs start (r .start)
+        × AllPassedOver (now (entries .entry)) attrs (r .end) end ⌝ }
+{
+    let objmode = attrs.objmode;
+    match objmode {
+        ObjMode::Normal | ObjMode::Sfx => {
+            let first = first_open(entries, attrs.priority, start, end);
+            Span {
+                start: first,
+                end: last_open(entries, attrs.priority, first, end),
+            }
+        }
+        ObjMode::Window | ObjMode::Forbidden => Span { start, end },
     }
 }
 
@@ -143,53 +139,16 @@ fn render_affine_obj(
         (now (entries .entry)) ⌝ }
 {
     let left = attrs.left(reading);
-    let start = first_column(left);
-    let end = end_column(left + attrs.box_width());
+    let right = left + attrs.box_width();
+    let open = open_columns(entries, attrs, first_column(left), end_column(right));
+    if open.end <= open.start {
+        return;
+    }
     let turn = turn_line(oam, attrs, reading, line);
-    let mut column = start;
-    while column < end {
-        render_affine_column(
-            entries,
-            vram,
-            palette,
-            attrs,
-            reading,
-            mapping,
-            turn,
-            column,
-            column + X_BIAS - left,
-        );
-        column += 1;
-    }
-}
-
-// A row of a sprite's colours put in the columns from start up to end, by the box's left edge plus 272. Nothing else is
-// read in the loop, so that it becomes one over vectors.
-fn put_row(
-    entries: &mut [u8],
-    attrs: ObjAttrs,
-    row: [Rgb15; 64],
-    left: usize,
-    start: usize,
-    end: usize,
-)
-    requires { ⌜ (length (now entries) ≡ entriesSize)
-        × (start ≤ end)
-        × (end ≤ 240)
-        × (left ≤ start + 272)
-        × (end + 272 ≤ left + 64) ⌝ }
-    ensures { λ _.
-        ⌜ now (entries .exit)
-        ≡ mapRow entryCells
-        (only (between start end)
-        (λ column. putPixel (attrs .objmode) (attrs .priority) (getD row (column + 272 - left) (rgb 0) .0)))
-        240 (now (entries .entry)) ⌝ }
-{
-    let mut column = start;
-    while column < end {
-        put_column(entries, attrs, column, row[column + X_BIAS - left]);
-        column += 1;
-    }
+    let from = open.start + X_BIAS - left;
+    let to = open.end + X_BIAS - left;
+    let row = affine_row(vram, palette, attrs, reading, mapping, turn, from, to);
+    write_obj_pixels(entries, attrs, row, left, open.start, open.end);
 }
 
 // The pixels of a normal sprite whose box holds the line.
@@ -217,33 +176,76 @@ fn render_normal_obj(
         (now (entries .entry)) ⌝ }
 {
     let left = attrs.left(reading);
-    let start = first_column(left);
-    let end = end_column(left + attrs.width);
-    if end <= start {
+    let right = left + attrs.width;
+    let open = open_columns(entries, attrs, first_column(left), end_column(right));
+    if open.end <= open.start {
         return;
     }
     let sprite_y = flip(attrs.v_flip, attrs.height, attrs.row(reading, line));
     let row = texel_row(vram, palette, attrs, reading, mapping, sprite_y);
-    put_row(entries, attrs, row, left, start, end);
+    write_obj_pixels(entries, attrs, row, left, open.start, open.end);
 }
 
-// Whether a sprite is passed over for what the entry holds.
-fn is_passed_over(e: Entry, attrs: ObjAttrs) -> bool
-    ensures { λ r. ⌜ r ≡ passedOver (attrs .objmode) (attrs .priority) e ⌝ }
-{
-    let objmode = attrs.objmode;
-    !objmode.is_window() & (e.priority <= attrs.priority)
-}
-
-// The entry that shows a sprite's pixel; semi is the semi-transparent mark, 0 or 1.
-fn shown_by(e: Entry, semi: u8, priority: u8, pixel_color: Rgb15) -> Entry
-    requires { ⌜ semi ≤ 1 ⌝ }
-    ensures { λ r. ⌜ r ≡ shownBy semi priority («pixel_color» .0) e ⌝ }
+// The entry that shows a sprite's pixel; alpha is the semi-transparent mark.
+fn shown_by(e: Entry, alpha: bool, priority: u8, pixel_color: Rgb15) -> Entry
+    ensures { λ r. ⌜ r ≡ shownBy alpha priority («pixel_color» .0) e ⌝ }
 {
     Entry {
         color: pixel_color,
         priority,
-        marks: e.marks / 2 * 2 + semi,
+        marks: e.marks / 2 * 2 + alpha as u8,
+    }
+}
+
+// A pixel of a visible sprite put in the entry of a column.
+fn show_pixel(entries: &mut [u8], column: usize, pixel_color: Rgb15, priority: u8, alpha: bool)
+    requires { ⌜ (length (now entries) ≡ entriesSize) × (column < 240) ⌝ }
+    ensures { λ _.
+        ⌜ now (entries .exit)
+        ≡ putColumn (cond alpha ObjMode.Sfx ObjMode.Normal) priority («pixel_color» .0)
+        (now (entries .entry)) column ⌝ }
+{
+    let e = entry_at(entries, column);
+    let kept = (e.priority <= priority) | pixel_color.is_transparent();
+    put_unless(
+        entries,
+        column,
+        kept,
+        shown_by(e, alpha, priority, pixel_color),
+    );
+}
+
+// A visible sprite's colours put in the columns from start up to end, by the box's left edge plus 272. Nothing else is
+// read in the loop, so that it becomes one over vectors.
+fn show_pixels(
+    entries: &mut [u8],
+    row: [Rgb15; 128],
+    left: usize,
+    start: usize,
+    end: usize,
+    priority: u8,
+    alpha: bool,
+)
+    requires { ⌜ (length (now entries) ≡ entriesSize)
+        × (start ≤ end)
+        × (end ≤ 240)
+        × (left ≤ start + 272)
+        × (end + 272 ≤ left + 128) ⌝ }
+    ensures { λ _.
+        ⌜ now (entries .exit)
+        ≡ putBox (cond alpha ObjMode.Sfx ObjMode.Normal) priority row left start end
+        (now (entries .entry)) ⌝ }
+{
+    let mut column = start;
+    while column < end {
+        show_pixel(
+            entries,
+            column,
+            row[column + X_BIAS - left],
+            priority,
+            alpha,
+        );
+        column += 1;
     }
 }
 
@@ -259,59 +261,88 @@ fn windowed(e: Entry) -> Entry
     }
 }
 
-// What a pixel that is opaque and not passed over makes of an entry. The mode is asked in turn: a `match` of its four arms
-// would be a jump at each column.
-fn write_obj_pixel(e: Entry, pixel_color: Rgb15, attrs: ObjAttrs) -> Entry
-    ensures { λ r. ⌜ r ≡ written (attrs .objmode) (attrs .priority) («pixel_color» .0) e ⌝ }
+// A pixel of a window sprite put in the entry of a column; it tests no priority, so that 0 stands for any.
+fn mark_pixel(entries: &mut [u8], column: usize, pixel_color: Rgb15)
+    requires { ⌜ (length (now entries) ≡ entriesSize) × (column < 240) ⌝ }
+    ensures { λ _.
+        ⌜ now (entries .exit)
+        ≡ putColumn ObjMode.Window 0 («pixel_color» .0) (now (entries .entry)) column ⌝ }
+{
+    let e = entry_at(entries, column);
+    put_unless(entries, column, pixel_color.is_transparent(), windowed(e));
+}
+
+// A window sprite's colours put in the columns from start up to end, as `show_pixels` has it.
+fn mark_pixels(entries: &mut [u8], row: [Rgb15; 128], left: usize, start: usize, end: usize)
+    requires { ⌜ (length (now entries) ≡ entriesSize)
+        × (start ≤ end)
+        × (end ≤ 240)
+        × (left ≤ start + 272)
+        × (end + 272 ≤ left + 128) ⌝ }
+    ensures { λ _.
+        ⌜ now (entries .exit)
+        ≡ putBox ObjMode.Window 0 row left start end (now (entries .entry)) ⌝ }
+{
+    let mut column = start;
+    while column < end {
+        mark_pixel(entries, column, row[column + X_BIAS - left]);
+        column += 1;
+    }
+}
+
+// A sprite's colours put in the columns from start up to end, by its mode.
+fn write_obj_pixels(
+    entries: &mut [u8],
+    attrs: ObjAttrs,
+    row: [Rgb15; 128],
+    left: usize,
+    start: usize,
+    end: usize,
+)
+    requires { ⌜ (length (now entries) ≡ entriesSize)
+        × (start ≤ end)
+        × (end ≤ 240)
+        × (left ≤ start + 272)
+        × (end + 272 ≤ left + 128) ⌝ }
+    ensures { λ _.
+        ⌜ now (entries .exit)
+        ≡ putBox (attrs .objmode) (attrs .priority) row left start end (now (entries .entry)) ⌝ }
 {
     let objmode = attrs.objmode;
-    if !objmode.is_permitted() {
-        return e;
-    }
-    if objmode.is_window() {
-        windowed(e)
-    } else {
-        shown_by(e, objmode.semi(), attrs.priority, pixel_color)
+    match objmode {
+        ObjMode::Normal => show_pixels(entries, row, left, start, end, attrs.priority, false),
+        ObjMode::Sfx => show_pixels(entries, row, left, start, end, attrs.priority, true),
+        ObjMode::Window => mark_pixels(entries, row, left, start, end),
+        ObjMode::Forbidden => {}
     }
 }
 
-// What a sprite's pixel makes of an entry.
-fn put_obj_pixel(e: Entry, pixel_color: Rgb15, attrs: ObjAttrs) -> Entry
-    ensures { λ r. ⌜ r ≡ putPixel (attrs .objmode) (attrs .priority) («pixel_color» .0) e ⌝ }
-{
-    if is_passed_over(e, attrs) | pixel_color.is_transparent() {
-        e
-    } else {
-        write_obj_pixel(e, pixel_color, attrs)
-    }
-}
-
-// The pixels of a sprite whose box holds the line, by its type.
-fn render_typed_obj(
+// The pixels of sprite obj, whose box holds the line, by its type.
+fn render_obj(
     entries: &mut [u8],
     vram: &[u8],
     palette: &[u8],
     oam: &[u8],
-    attrs: ObjAttrs,
     reading: Reading,
     mapping: ObjMapping,
     line: usize,
+    obj: usize,
 )
     requires { ⌜ (length (now entries) ≡ entriesSize)
         × (length (now vram) ≡ videoRamSize)
         × (length (now palette) ≡ paletteRamSize)
         × (length (now oam) ≡ oamSize)
-        × Decoded attrs
-        × (attrs .width % 8 ≡ 0)
         × (line < 160)
-        × (onLine reading attrs line ≡ true) ⌝ }
+        × (obj < 128)
+        × (onLine reading (sprite (now oam) obj) line ≡ true) ⌝ }
     ensures { λ _.
         ⌜ now (entries .exit)
-        ≡ putRow attrs
-        (typedColor (attrs .objtype) reading mapping (now (vram .entry)) (now (palette .entry))
-        (now (oam .entry)) attrs line)
+        ≡ putRow (sprite (now (oam .entry)) obj)
+        (typedColor (sprite (now (oam .entry)) obj .objtype) reading mapping (now (vram .entry))
+        (now (palette .entry)) (now (oam .entry)) (sprite (now (oam .entry)) obj) line)
         (now (entries .entry)) ⌝ }
 {
+    let attrs = read_obj_attrs(oam, obj);
     let objtype = attrs.objtype;
     match objtype {
         ObjType::Hidden => {}
@@ -329,45 +360,22 @@ fn render_typed_obj(
     }
 }
 
-// The pixels of sprite obj.
-fn render_obj(
-    entries: &mut [u8],
-    vram: &[u8],
-    palette: &[u8],
-    oam: &[u8],
-    reading: Reading,
-    mapping: ObjMapping,
-    tiles_start: usize,
-    line: usize,
-    obj: usize,
-)
-    requires { ⌜ (length (now entries) ≡ entriesSize)
-        × (length (now vram) ≡ videoRamSize)
-        × (length (now palette) ≡ paletteRamSize)
-        × (length (now oam) ≡ oamSize)
-        × (line < 160)
-        × (obj < 128) ⌝ }
-    ensures { λ _.
-        ⌜ now (entries .exit)
-        ≡ mapRow entryCells
-        (spriteStep reading
-        (record {
-          vram = now (vram .entry);
-          palette = now (palette .entry);
-          oam = now (oam .entry);
-          mapping = mapping;
-          start = «tiles_start»;
-        })
-        line obj)
-        240 (now (entries .entry)) ⌝ }
+// The first sprite from `from` on that is drawn on a line, or 128.
+fn next_obj(oam: &[u8], reading: Reading, tiles_start: usize, line: usize, from: usize) -> usize
+    requires { ⌜ (length (now oam) ≡ oamSize) × (line < 160) × (from ≤ 128) ⌝ }
+    ensures { λ r. ⌜ NextDrawn reading «tiles_start» (now (oam .entry)) line from r ⌝ }
 {
-    let attrs = read_obj_attrs(oam, obj);
-    if attrs.is_drawn(reading, tiles_start, line) {
-        render_typed_obj(entries, vram, palette, oam, attrs, reading, mapping, line);
+    let mut obj = from;
+    while obj < OBJ_COUNT {
+        if read_obj_attrs(oam, obj).is_drawn(reading, tiles_start, line) {
+            return obj;
+        }
+        obj += 1;
     }
+    obj
 }
 
-// The pixels of a line's sprites put in its row of entries. A sprite is decoded only if it isn't ruled out.
+// The pixels of a line's sprites put in its row of entries.
 pub fn render_objs(
     entries: &mut [u8],
     vram: &[u8],
@@ -398,19 +406,9 @@ pub fn render_objs(
     let dispcnt = read_dispcnt(registers);
     let mapping = dispcnt.obj_mapping();
     let tiles_start = obj_tiles_start(dispcnt.mode);
-    let mut obj = next_obj(oam, line, 0);
+    let mut obj = next_obj(oam, reading, tiles_start, line, 0);
     while obj < OBJ_COUNT {
-        render_obj(
-            entries,
-            vram,
-            palette,
-            oam,
-            reading,
-            mapping,
-            tiles_start,
-            line,
-            obj,
-        );
-        obj = next_obj(oam, line, obj + 1);
+        render_obj(entries, vram, palette, oam, reading, mapping, line, obj);
+        obj = next_obj(oam, reading, tiles_start, line, obj + 1);
     }
 }

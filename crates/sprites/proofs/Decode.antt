@@ -1,20 +1,21 @@
 -- Laws of decoded sprites. No contract cites this file. Assumes nothing.
-use Prim.Native.Nat.{ℕ, _+_, _*_, _/_, _%_, _^_, _≤_, _<_}
+use Prim.Native.Nat.{ℕ, zero, suc, _+_, _*_, _/_, _%_, _^_, _≤_, _<_}
 use native.Mathlib.Omega.{arith}
 use mathlib.Core.Path.{_≡_, refl, sym, ap, ap₂, _∙_}
-use mathlib.Core.Bool.{true}
+use mathlib.Core.Bool.{true, _&&_}
 use mathlib.Core.List.{List}
-use lib.Dec.{eqb}
+use lib.Dec.{eqb, leb}
 use lib.IntN.{subℕ}
-use borrow.Author.Tests.{eqb-true}
+use borrow.Author.Tests.{eqb-true, leb-true}
 use Rattle.bits.specs.Bits.{bits, bit}
 use Rattle.signed.specs.Signed.{signed16}
+use Rattle.signed.proofs.Order.{and-both}
 use Rattle.rows.specs.Below.{allBelow}
 use Rattle.rows.proofs.Below.{allBelow-at}
 use Rattle.memory.specs.Memory.{half}
 use Rattle.regs.specs.Background.{tileFormat}
 use Rattle.sprites.specs.Oam.{Attributes, attributes}
-use Rattle.sprites.specs.Size.{widths, objWidth, objHeight}
+use Rattle.sprites.specs.Size.{widths, heights, objWidth, objHeight}
 use Rattle.sprites.specs.Attrs.{objType, objMode, objAttrs, sprite}
 use Rattle.sprites.specs.declared.attrs.ObjAttrs.{ObjAttrs}
 
@@ -70,6 +71,31 @@ pub priority-bound : (a : Attributes) → objAttrs a .priority ≤ 3
 unfolding objAttrs
 priority-bound a = omega arith
 
+-- ---- sizes, of which 4 * shape + size is the number
+
+-- The size of number n.
+size-at : (n size shape : ℕ) → size < 4 → 4 * shape + size ≡ n
+    → (objWidth (n % 4) (n / 4) ≡ objWidth size shape) × (objHeight (n % 4) (n / 4) ≡ objHeight size shape)
+size-at n size shape size< n-is =
+    let column : n % 4 ≡ size = omega arith in
+    let row : n / 4 ≡ shape = omega arith in
+    (ap₂ objWidth column row, ap₂ objHeight column row)
+
+sizes-bound : allBelow (λ n. leb (objWidth (n % 4) (n / 4)) 64 && leb (objHeight (n % 4) (n / 4)) 64) 16 ≡ true
+unfolding objWidth objHeight widths heights allBelow
+sizes-bound = refl
+
+-- What a table of all 16 sizes has at n.
+pub size-is : (n size shape : ℕ) → size < 4 → shape < 4 → 4 * shape + size ≡ n
+    → (objWidth (n % 4) (n / 4) ≡ objWidth size shape)
+    × (objHeight (n % 4) (n / 4) ≡ objHeight size shape)
+    × (objWidth (n % 4) (n / 4) ≤ 64)
+    × (objHeight (n % 4) (n / 4) ≤ 64)
+size-is n size shape size< shape< n-is =
+    let sized = size-at n size shape size< n-is in
+    let bounds = and-both _ _ (allBelow-at _ 16 sizes-bound n (omega arith)) in
+    (sized .0, sized .1, leb-true _ _ (bounds .0), leb-true _ _ (bounds .1))
+
 -- Every width is one of whole tiles.
 widths-whole : allBelow (λ n. eqb (objWidth (n % 4) (n / 4) % 8) 0) 16 ≡ true
 unfolding objWidth widths allBelow
@@ -78,10 +104,17 @@ widths-whole = refl
 objWidth-whole : (size shape : ℕ) → size < 4 → shape < 4 → objWidth size shape % 8 ≡ 0
 objWidth-whole size shape size< shape< =
     let n = 4 * shape + size in
-    let size-is : size ≡ n % 4 = omega arith in
-    let shape-is : shape ≡ n / 4 = omega arith in
-    ap (λ width. width % 8) (ap₂ objWidth size-is shape-is)
+    ap (λ width. width % 8) (sym (size-at n size shape size< refl .0))
     ∙ eqb-true _ _ (allBelow-at _ 16 widths-whole n (omega arith))
+
+-- n is none of the numbers below k, as the last arm of a `match` is told.
+abbrev pub NoneBelow : ℕ → ℕ → Type 0
+NoneBelow zero n = Unit
+NoneBelow (suc k) n = NoneBelow k n × (n ≡ k → ⊥)
+
+pub noneBelow-bound : (k n : ℕ) → NoneBelow k n → k ≤ n
+noneBelow-bound zero n none = omega arith
+noneBelow-bound (suc k) n none = omega (arith, noneBelow-bound k n (none .0), none .1)
 
 pub width-whole : (a : Attributes) {s : ObjAttrs} → s ≡ objAttrs a → s .width % 8 ≡ 0
 unfolding objAttrs

@@ -65,6 +65,14 @@ pub boxed-normal : {type : ObjType} (side : ℕ) → type ≡ ObjType.Normal →
 unfolding boxed
 boxed-normal side e = rw e
 
+-- No box has a side of more than 128.
+pub boxed-bound : (type : ObjType) (side : ℕ) → side ≤ 64 → boxed type side ≤ 128
+unfolding boxed
+boxed-bound ObjType.Normal side side≤ = omega arith
+boxed-bound ObjType.Affine side side≤ = omega arith
+boxed-bound ObjType.Hidden side side≤ = omega arith
+boxed-bound ObjType.AffineDoubleSize side side≤ = omega arith
+
 module _ (reading : Reading) (s : ObjAttrs) where
   module _ (l : ℕ) (left-is : left reading s ≡ subℕ l 272) where
     pub across-is : (column : ℕ) → across reading s column ≡ subℕ (column + 272) l

@@ -6,6 +6,10 @@ use lib.IntN.{ℤ}
 use Rattle.memory.specs.Memory.{half}
 use Rattle.signed.specs.Signed.{signed16}
 
+-- OAM has 128 sprites (LCD OBJ - OAM Attributes).
+abbrev pub objCount : ℕ
+objCount = 128
+
 -- A sprite's three halfwords.
 pub record Attributes : Type 0 where
   pub first : ℕ

@@ -3,6 +3,7 @@ use Prim.Native.Nat.{ℕ, _*_}
 use mathlib.Core.Bool.{Bool, cond}
 use lib.Dec.{ltb}
 use lib.IntN.{ℤ, pos, subℕ, _-ℤ_}
+use Rattle.memory.specs.Sizes.{displayWidth, displayHeight}
 use Rattle.signed.specs.Signed.{within}
 use Rattle.regs.specs.declared.reading.Reading.{Reading}
 use Rattle.sprites.specs.declared.attrs.ObjAttrs.{ObjAttrs}
@@ -10,11 +11,11 @@ use Rattle.sprites.specs.declared.attrs.ObjType.{ObjType}
 
 -- Y of 160 or more is Y - 256.
 unfoldable pub yOf : ℕ → ℤ
-yOf y = cond (ltb y 160) (pos y) (subℕ y 256)
+yOf y = cond (ltb y displayHeight) (pos y) (subℕ y 256)
 
 -- X of 240 or more is X - 512.
 unfoldable pub xOf : ℕ → ℤ
-xOf x = cond (ltb x 240) (pos x) (subℕ x 512)
+xOf x = cond (ltb x displayWidth) (pos x) (subℕ x 512)
 
 -- A side of the box, doubled for type 3.
 unfoldable pub boxed : ObjType → ℕ → ℕ
@@ -31,11 +32,11 @@ boxWidth s = boxed (s .objtype) (s .width)
 abbrev pub boxHeight : ObjAttrs → ℕ
 boxHeight s = boxed (s .objtype) (s .height)
 
--- The column of the box's left edge.
+-- The column of the box's left edge; R and H agree here (01, "Two readings").
 unfoldable pub left : Reading → ObjAttrs → ℤ
 left reading s = xOf (s .x)
 
--- The line of the box's top.
+-- The line of the box's top; R and H agree here (01, "Two readings").
 unfoldable pub top : Reading → ObjAttrs → ℤ
 top reading s = yOf (s .y)
 

@@ -1,7 +1,7 @@
 // A sprite's attributes, decoded (render/obj.rs: `ObjAttrs`, its enums and its bit fields). R and H agree wherever a
 // reading is passed on.
 ghost use mathlib.Core.Path.{_≡_};
-ghost use mathlib.Core.Bool.{true, false, cond};
+ghost use mathlib.Core.Bool.{true};
 ghost use Prim.Native.Nat.{ℕ, _+_, _^_, _≤_, _<_};
 ghost use lib.IntN.{pos, subℕ};
 ghost use Rattle.signed.specs.Signed.{within};
@@ -12,7 +12,7 @@ ghost use Rattle.sprites.specs.Size.{objWidth, objHeight};
 ghost use Rattle.sprites.specs.Attrs.{objMode, objType, objAttrs, Decoded};
 ghost use Rattle.sprites.specs.Place.{boxed, boxWidth, boxHeight, left, top, below, onLine};
 ghost use Rattle.sprites.specs.Tiles.{tileBase, tileRow, tileAt};
-ghost use Rattle.sprites.specs.Sprite.{isShown, isPermitted, drawn, isSemi, isWindow};
+ghost use Rattle.sprites.specs.Sprite.{isShown, isPermitted, drawn};
 use memory::PixelFormat;
 use regs::ObjMapping;
 use regs::Reading;
@@ -26,6 +26,9 @@ const TILE_STEP: usize = 0x20;
 pub const X_BIAS: usize = 272;
 
 const Y_BIAS: usize = 96;
+
+// The lines of the highest box.
+const BOX_MAX: usize = 128;
 
 pub enum ObjMode {
     Normal,
@@ -48,7 +51,7 @@ impl ObjMode {
     }
 
     // Whether sprites of this mode are drawn.
-    pub fn is_permitted(self) -> bool
+    fn is_permitted(self) -> bool
         ensures { λ r. ⌜ r ≡ isPermitted self ⌝ }
     {
         match self {
@@ -56,30 +59,6 @@ impl ObjMode {
             ObjMode::Sfx => true,
             ObjMode::Window => true,
             ObjMode::Forbidden => false,
-        }
-    }
-
-    // Whether sprites of this mode are window sprites.
-    pub fn is_window(self) -> bool
-        ensures { λ r. ⌜ r ≡ isWindow self ⌝ }
-    {
-        match self {
-            ObjMode::Normal => false,
-            ObjMode::Sfx => false,
-            ObjMode::Window => true,
-            ObjMode::Forbidden => false,
-        }
-    }
-
-    // The semi-transparent mark that sprites of this mode leave, 0 or 1.
-    pub fn semi(self) -> u8
-        ensures { λ r. ⌜ (r ≡ cond (isSemi self) 1 0) × (r ≤ 1) ⌝ }
-    {
-        match self {
-            ObjMode::Normal => 0,
-            ObjMode::Sfx => 1,
-            ObjMode::Window => 0,
-            ObjMode::Forbidden => 0,
         }
     }
 }
@@ -142,28 +121,27 @@ impl ObjSize {
             × (r .0 ≤ 64)
             × (r .1 ≤ 64) ⌝ }
     {
-        match shape {
+        // All 16 are written out, so that this is a table and has no jump.
+        match 4 * shape + size {
             // Square
-            0 => match size {
-                0 => ObjSize(8, 8),
-                1 => ObjSize(16, 16),
-                2 => ObjSize(32, 32),
-                _ => ObjSize(64, 64),
-            },
+            0 => ObjSize(8, 8),
+            1 => ObjSize(16, 16),
+            2 => ObjSize(32, 32),
+            3 => ObjSize(64, 64),
             // Wide
-            1 => match size {
-                0 => ObjSize(16, 8),
-                1 => ObjSize(32, 8),
-                2 => ObjSize(32, 16),
-                _ => ObjSize(64, 32),
-            },
+            4 => ObjSize(16, 8),
+            5 => ObjSize(32, 8),
+            6 => ObjSize(32, 16),
+            7 => ObjSize(64, 32),
             // Tall
-            2 => match size {
-                0 => ObjSize(8, 16),
-                1 => ObjSize(8, 32),
-                2 => ObjSize(16, 32),
-                _ => ObjSize(32, 64),
-            },
+            8 => ObjSize(8, 16),
+            9 => ObjSize(8, 32),
+            10 => ObjSize(16, 32),
+            11 => ObjSize(32, 64),
+            // Prohibited
+            12 => ObjSize(8, 8),
+            13 => ObjSize(8, 8),
+            14 => ObjSize(8, 8),
             _ => ObjSize(8, 8),
         }
     }
@@ -306,15 +284,23 @@ impl ObjAttrs {
         self.tile_base(reading) + tile_size * (x / 8 + row * (y / 8))
     }
 
-    // Whether the sprite is drawn on a line.
+    // Whether the sprite is drawn on a line. Most are ruled out before their size is looked up.
     pub fn is_drawn(self, reading: Reading, tiles_start: usize, line: usize) -> bool
         requires { ⌜ Decoded self × (line < 160) ⌝ }
         ensures { λ r. ⌜ r ≡ drawn reading «tiles_start» self line ⌝ }
     {
         let objtype = self.objtype;
         let objmode = self.objmode;
-        let on_line = is_inside(line + Y_BIAS, self.top(reading), self.box_height());
+        let at = line + Y_BIAS;
+        let top = self.top(reading);
+        if !objtype.is_shown() {
+            return false;
+        }
+        if (at < top) | (top + BOX_MAX <= at) {
+            return false;
+        }
+        let on_line = at < top + self.box_height();
         let has_tiles = tiles_start <= self.tile_base(reading);
-        objtype.is_shown() & objmode.is_permitted() & on_line & has_tiles
+        objmode.is_permitted() & on_line & has_tiles
     }
 }

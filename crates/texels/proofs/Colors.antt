@@ -1,5 +1,5 @@
 -- Laws of a sprite's colours, by naturals: the box's left edge is l less 272. No contract cites this file. Assumes nothing.
-use Prim.Native.Nat.{ℕ, _+_, _-_, _/_, _^_, _≤_, _<_, min}
+use Prim.Native.Nat.{ℕ, _+_, _-_, _/_, _≤_, _<_, min}
 use native.Mathlib.Omega.{arith}
 use mathlib.Core.Path.{_≡_, sym, ap₂, _∙_}
 use mathlib.Core.Bool.{true, false}
@@ -16,7 +16,8 @@ use Rattle.sprites.specs.Oam.{Matrix}
 use Rattle.sprites.specs.Place.{boxWidth, boxHeight, left, below}
 use Rattle.sprites.specs.Tiles.{texel}
 use Rattle.sprites.specs.Color.{flip, normalColor, colorAt, affineColor}
-use Rattle.texels.specs.Turn.{pointAt, TurnOf}
+use Rattle.texels.specs.Row.{pointColor}
+use Rattle.texels.specs.Turn.{TurnOf}
 use Rattle.texels.specs.declared.affine.Turn.{Turn}
 use Rattle.sprites.specs.declared.attrs.ObjAttrs.{ObjAttrs}
 use Rattle.sprites.proofs.Places.{across-above, across-between}
@@ -44,9 +45,7 @@ module _ (reading : Reading) (mapping : ObjMapping) (vram palette : List ℕ) (s
     module _ (m : Matrix) (t : Turn) (turn-is : TurnOf m s (below reading s line -ℤ pos (boxHeight s / 2)) t) where
       -- A column of an affine sprite's box.
       pub affineColor-inside : (column : ℕ) → boxWidth s ≤ 128 → l ≤ column + 272 → column + 272 < l + boxWidth s
-          → colorAt reading mapping vram palette s
-          (subℕ (pointAt (t .x) (t .pa) (column + 272 - l) (s .width)) (2 ^ 16))
-          (subℕ (pointAt (t .y) (t .pc) (column + 272 - l) (s .height)) (2 ^ 16))
+          → pointColor reading mapping vram palette s t (column + 272 - l)
           ≡ affineColor reading mapping vram palette m s line column
       unfolding affineColor within
       affineColor-inside column box≤ h u =

@@ -1,18 +1,21 @@
--- Laws of a normal sprite's row of colours, tile by tile. No contract cites this file. Assumes nothing.
-use Prim.Native.Nat.{ℕ, _+_, _-_, _*_, _/_, _%_, _≤_, _<_, min}
+-- Laws of a sprite's row of colours: a normal one's, tile by tile, and an affine one's, point by point. No contract cites this
+-- file. Assumes nothing.
+use Prim.Native.Nat.{ℕ, _+_, _-_, _*_, _/_, _%_, _≤_, _<_}
 use native.Mathlib.Omega.{arith}
 use mathlib.Core.Path.{_≡_, refl, sym, ap, ap₂, _∙_}
-use mathlib.Core.Bool.{Bool, true, false}
+use mathlib.Core.Bool.{Bool, true, false, cond}
 use mathlib.Core.List.{List}
 use lib.Dec.{ltb}
 use lib.ListN.{getD, set, replicate, length-replicate, getD-replicate}
 use lib.Seq.{getD-set-other, getD-take}
-use lib.IntN.{pos, subℕ}
+use lib.IntN.{pos, subℕ, _-ℤ_}
 use borrow.Author.Tests.{ltb-true, ltb-false, lt-ltb, le-ltb}
 use Rattle.rgb15.specs.Colour.{rgb, transparent}
 use Rattle.rgb15.specs.declared.Rgb15.{Rgb15}
 use Rattle.rows.specs.Below.{between}
-use Rattle.rows.specs.Tab.{tab}
+use Rattle.rows.specs.Cells.{only}
+use Rattle.rows.specs.Tab.{tab, mapTab}
+use Rattle.rows.proofs.Below.{between-inside}
 use Rattle.rows.proofs.Tab.{getD-of-tab, tab-cong, tab-ext}
 use Rattle.rows.proofs.Tabbed.{setTile, Tiled, tiled-none, tiled-row}
 use Rattle.memory.specs.Palette.{paletteColor}
@@ -21,13 +24,15 @@ use Rattle.tiles.specs.Flip.{flipped}
 use Rattle.tiles.proofs.Rows.{flipped-bound}
 use Rattle.regs.specs.declared.ObjMapping.{ObjMapping}
 use Rattle.regs.specs.declared.reading.Reading.{Reading}
-use Rattle.sprites.specs.Place.{left, below}
+use Rattle.sprites.specs.Oam.{Matrix}
+use Rattle.sprites.specs.Place.{boxWidth, boxHeight, left, below}
 use Rattle.sprites.specs.Tiles.{tileAt, texel}
-use Rattle.sprites.specs.Color.{flip, normalColor}
+use Rattle.sprites.specs.Color.{flip, normalColor, affineColor}
 use Rattle.sprites.specs.declared.attrs.ObjAttrs.{ObjAttrs}
-use Rattle.sprites.proofs.Places.{between-bounds}
-use Rattle.texels.specs.Row.{rowTexel}
-use Rattle.texels.proofs.Colors.{normalColor-inside}
+use Rattle.texels.specs.Row.{rowTexel, pointColor, affineTexel}
+use Rattle.texels.specs.Turn.{TurnOf}
+use Rattle.texels.specs.declared.affine.Turn.{Turn}
+use Rattle.texels.proofs.Colors.{normalColor-inside, affineColor-inside}
 
 -- ---- places that are flipped
 
@@ -85,7 +90,7 @@ module _ (reading : Reading) (mapping : ObjMapping) (vram palette : List ℕ) (s
       (ap₂ (λ n m. 8 * n + m) tile-is (flip-eight (s .«h_flip») k)
       ∙ flip-tile (s .«h_flip») (s .width) tiles t k whole t< k<)))
 
--- ---- a row of 64 columns
+-- ---- a row of 128 columns
 
 module _ (reading : Reading) (mapping : ObjMapping) (vram palette : List ℕ) (s : ObjAttrs) (y x : ℕ) where
   pub rowTexel-inside : x < s .width
@@ -100,11 +105,11 @@ module _ (reading : Reading) (mapping : ObjMapping) (vram palette : List ℕ) (s
 
 -- The columns from k on are transparent.
 pub record Clear (k : ℕ) (l : List Rgb15) : Type 0 where
-  pub clear : (x : ℕ) → k ≤ x → x < 64 → getD l x (rgb 0) ≡ rgb transparent
+  pub clear : (x : ℕ) → k ≤ x → x < 128 → getD l x (rgb 0) ≡ rgb transparent
 
 -- The columns of the first t tiles are set, column x to f x, and those after them are transparent still.
 pub record TilesSet (f : ℕ → Rgb15) (t : ℕ) (l : List Rgb15) : Type 0 where
-  pub tiled : Tiled f 64 8 t l
+  pub tiled : Tiled f 128 16 t l
   pub rest : Clear (8 * t) l
 
 -- A column below k is set.
@@ -130,16 +135,16 @@ clear-tile i a b c d e g h j {l} p =
     (omega arith))
     (omega arith)
 
-pub tilesSet-none : {f : ℕ → Rgb15} → TilesSet f 0 (replicate 64 (rgb transparent))
+pub tilesSet-none : {f : ℕ → Rgb15} → TilesSet f 0 (replicate 128 (rgb transparent))
 tilesSet-none =
     record {
-      tiled = tiled-none refl (length-replicate 64 (rgb transparent));
-      rest = record { clear = λ x x≥ x<. getD-replicate 64 x (rgb transparent) (rgb 0) x< };
+      tiled = tiled-none refl (length-replicate 128 (rgb transparent));
+      rest = record { clear = λ x x≥ x<. getD-replicate 128 x (rgb transparent) (rgb 0) x< };
     }
 
 -- A turn, which set the columns of tile t to the elements of its row.
 pub tilesSet-more : {f : ℕ → Rgb15} {t : ℕ} {l : List Rgb15} (g : ℕ → Rgb15) (d : Rgb15) (row : List Rgb15)
-    → TilesSet f t l → t < 8 → row ≡ tab g 8 → ((k : ℕ) → k < 8 → g k ≡ f (8 * t + k))
+    → TilesSet f t l → t < 16 → row ≡ tab g 8 → ((k : ℕ) → k < 8 → g k ≡ f (8 * t + k))
     → TilesSet f (t + 1)
     (setTile l (8 * t) (getD row 0 d) (getD row 1 d) (getD row 2 d) (getD row 3 d)
     (getD row 4 d) (getD row 5 d) (getD row 6 d) (getD row 7 d))
@@ -156,10 +161,10 @@ tilesSet-more {t = t} {l} g d row p t< row-is same =
 -- Where all other columns are transparent, the row is whole.
 pub tilesSet-all : {f : ℕ → Rgb15} {t : ℕ} {l : List Rgb15} → TilesSet f t l
     → ((x : ℕ) → 8 * t ≤ x → f x ≡ rgb transparent)
-    → l ≡ tab f 64
-tilesSet-all {f} {t} {l} p none = tab-ext f 64 (rgb 0) l (p .tiled .tabbed .size) (λ x x<. go x x< (ltb x (8 * t)) refl)
+    → l ≡ tab f 128
+tilesSet-all {f} {t} {l} p none = tab-ext f 128 (rgb 0) l (p .tiled .tabbed .size) (λ x x<. go x x< (ltb x (8 * t)) refl)
   where
-    go : (x : ℕ) → x < 64 → (b : Bool) → ltb x (8 * t) ≡ b → getD l x (rgb 0) ≡ f x
+    go : (x : ℕ) → x < 128 → (b : Bool) → ltb x (8 * t) ≡ b → getD l x (rgb 0) ≡ f x
     go x x< true h =
         let x<tiles = ltb-true x (8 * t) h in
         sym (getD-take (8 * t) l x (rgb 0) x<tiles) ∙ getD-of-tab f (8 * t) x (rgb 0) (p .tiled .tabbed .made) x<tiles
@@ -168,19 +173,55 @@ tilesSet-all {f} {t} {l} p none = tab-ext f 64 (rgb 0) l (p .tiled .tabbed .size
 -- A column of the box, by the row of colours.
 pub normalColor-row : (reading : Reading) (mapping : ObjMapping) (vram palette : List ℕ) (s : ObjAttrs) (line l : ℕ)
     → left reading s ≡ subℕ l 272 → s .width ≤ 64
-    → (row column : ℕ) (colors : List Rgb15) {y start end : ℕ}
+    → (row column : ℕ) (colors : List Rgb15) {y : ℕ}
     → below reading s line ≡ pos row
     → y ≡ flip (s .«v_flip») (s .height) row
-    → colors ≡ tab (λ x. rgb (rowTexel reading mapping vram palette s y x)) 64
-    → start ≡ l - 272 → end ≡ min 240 (l + s .width - 272) → between start end column ≡ true
+    → colors ≡ tab (λ x. rgb (rowTexel reading mapping vram palette s y x)) 128
+    → l ≤ column + 272 → column + 272 < l + s .width
     → getD colors (column + 272 - l) (rgb 0) .0 ≡ normalColor reading mapping vram palette s line column
-normalColor-row reading mapping vram palette s line l left-is width≤ row column colors {y} {start} {end}
-    row-is y-is colors-are start-is end-is inside =
-    let bounds = between-bounds start end column inside in
-    let h : l ≤ column + 272 = omega arith in
-    let u : column + 272 < l + s .width = omega arith in
+normalColor-row reading mapping vram palette s line l left-is width≤ row column colors {y} row-is y-is colors-are h u =
     ap (λ c. c .0)
     (getD-of-tab
-    (λ x. rgb (rowTexel reading mapping vram palette s y x)) 64 (column + 272 - l) (rgb 0) colors-are (omega arith))
+    (λ x. rgb (rowTexel reading mapping vram palette s y x)) 128 (column + 272 - l) (rgb 0) colors-are (omega arith))
     ∙ rowTexel-inside reading mapping vram palette s y (column + 272 - l) (omega arith)
     ∙ normalColor-inside reading mapping vram palette s line l left-is row column row-is y-is h u
+
+-- ---- the row of an affine sprite's box
+
+module _ (reading : Reading) (mapping : ObjMapping) (vram palette : List ℕ) (s : ObjAttrs) (t : Turn) where
+  pub affineTexel-inside : (from to i : ℕ) → from ≤ i → i < to
+      → affineTexel reading mapping vram palette s t from to i ≡ pointColor reading mapping vram palette s t i
+  unfolding affineTexel
+  affineTexel-inside from to i i≥ i< = rw (between-inside from to i i≥ i<)
+
+  -- The columns that are not set stay transparent.
+  pub affineTexel-row : (from to n : ℕ) (d : Rgb15)
+      → mapTab (only (between from to) (λ i _. rgb (pointColor reading mapping vram palette s t i))) n d
+      (replicate n (rgb transparent))
+      ≡ tab (λ i. rgb (affineTexel reading mapping vram palette s t from to i)) n
+  unfolding mapTab affineTexel
+  affineTexel-row from to n d =
+      tab-cong _ _ n
+      (λ i i<.
+      ap (cond (between from to i) (rgb (pointColor reading mapping vram palette s t i)))
+      (getD-replicate n i (rgb transparent) d i<)
+      ∙ rgb-cond (between from to i) (pointColor reading mapping vram palette s t i))
+    where
+      rgb-cond : (b : Bool) (a : ℕ) → cond b (rgb a) (rgb transparent) ≡ rgb (cond b a transparent)
+      rgb-cond true a = refl
+      rgb-cond false a = refl
+
+  -- A column of the box, by the row of colours.
+  pub affineColor-row : (line l : ℕ) → left reading s ≡ subℕ l 272
+      → (m : Matrix) → TurnOf m s (below reading s line -ℤ pos (boxHeight s / 2)) t → boxWidth s ≤ 128
+      → (from to column : ℕ) (colors : List Rgb15)
+      → colors ≡ tab (λ i. rgb (affineTexel reading mapping vram palette s t from to i)) 128
+      → l ≤ column + 272 → column + 272 < l + boxWidth s → from ≤ column + 272 - l → column + 272 - l < to
+      → getD colors (column + 272 - l) (rgb 0) .0 ≡ affineColor reading mapping vram palette m s line column
+  affineColor-row line l left-is m turn-is box≤ from to column colors colors-are h u i≥ i< =
+      ap (λ c. c .0)
+      (getD-of-tab
+      (λ i. rgb (affineTexel reading mapping vram palette s t from to i)) 128 (column + 272 - l) (rgb 0) colors-are
+      (omega arith))
+      ∙ affineTexel-inside from to (column + 272 - l) i≥ i<
+      ∙ affineColor-inside reading mapping vram palette s line l left-is m t turn-is column box≤ h u

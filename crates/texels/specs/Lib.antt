@@ -1,3 +1,3 @@
--- The row of a normal sprite and the points of an affine one, as code has them. Assumes nothing.
+-- The rows of sprites' colours and the points of affine ones, as code has them. Assumes nothing.
 pub mod Row
 pub mod Turn

@@ -1,19 +1,26 @@
-// The points of affine sprites (render/obj.rs: `get_affine_matrix`, and the sums of `render_affine_obj`). Every number is
-// larger here by a bias, so that none is below 0.
+// The points of affine sprites and their colours (render/obj.rs: `get_affine_matrix`, and the sums of `render_affine_obj`).
+// Every number is larger here by a bias, so that none is below 0.
 ghost use mathlib.Core.Path.{_≡_};
 ghost use mathlib.Core.Bool.{true};
-ghost use Prim.Native.Nat.{_/_, _^_, _≤_, _<_};
+ghost use Prim.Native.Nat.{_+_, _/_, _^_, _≤_, _<_};
 ghost use lib.IntN.{pos, _-ℤ_};
 ghost use lib.ListN.{length};
-ghost use Rattle.memory.specs.Sizes.{oamSize};
+ghost use Rattle.rgb15.specs.Colour.{rgb};
+ghost use Rattle.memory.specs.Sizes.{videoRamSize, paletteRamSize, oamSize};
+ghost use Rattle.rows.specs.Tab.{tab};
 ghost use Rattle.sprites.specs.Oam.{matrix};
 ghost use Rattle.sprites.specs.Attrs.{Decoded};
 ghost use Rattle.sprites.specs.Place.{boxHeight, below, onLine};
-ghost use Rattle.texels.specs.Turn.{MatrixOf, StartOf, TurnOf, pointAt};
+ghost use Rattle.texels.specs.Turn.{MatrixOf, StartOf, Ranged, TurnOf, pointAt};
+ghost use Rattle.texels.specs.Row.{pointColor, affineTexel};
 use memory::read_16;
+use regs::ObjMapping;
 use regs::Reading;
+use rgb15::Rgb15;
 use signed::lift_half;
 use sprites::ObjAttrs;
+use sprites::is_inside;
+use sprites::read_texel;
 
 const AFFINE_FILL: usize = 2 * 3;
 
@@ -21,7 +28,7 @@ const AFFINE_FILL: usize = 2 * 3;
 const HALF_BIAS: usize = 0x8000;
 
 // What a point's coordinates are larger by, and what they are larger by 256 to a pixel.
-pub const POINT_BIAS: usize = 0x1_0000;
+const POINT_BIAS: usize = 0x1_0000;
 
 const START_BIAS: usize = 0x100_0000;
 
@@ -90,8 +97,16 @@ pub fn turn_line(oam: &[u8], attrs: ObjAttrs, reading: Reading, line: usize) -> 
     }
 }
 
+// The pixel that a sum lies in: the sum counts from a sprite's middle, 256 to a pixel, and is rounded down.
+fn pixel_of(sum: usize, side: usize) -> usize
+    requires { ⌜ (sum < 2 ^ 27) × (side ≤ 64) ⌝ }
+    ensures { λ r. ⌜ r ≡ sum / 256 + side / 2 ⌝ }
+{
+    sum / 256 + side / 2
+}
+
 // A coordinate of column i of a box.
-pub fn point_at(start: usize, p: usize, i: usize, side: usize) -> usize
+fn point_at(start: usize, p: usize, i: usize, side: usize) -> usize
     requires { ⌜ (2 ^ 22 ≤ start)
         × (start ≤ 2 ^ 26)
         × (p < 2 ^ 16)
@@ -99,5 +114,71 @@ pub fn point_at(start: usize, p: usize, i: usize, side: usize) -> usize
         × (side ≤ 64) ⌝ }
     ensures { λ r. ⌜ r ≡ pointAt start p i side ⌝ }
 {
-    (start + p * i - HALF_BIAS * i) / 256 + side / 2
+    pixel_of(start + p * i - HALF_BIAS * i, side)
+}
+
+// The colour of column i of an affine sprite's box: nothing is read where its point is outside.
+fn point_color(
+    vram: &[u8],
+    palette: &[u8],
+    attrs: ObjAttrs,
+    reading: Reading,
+    mapping: ObjMapping,
+    turn: Turn,
+    i: usize,
+) -> Rgb15
+    requires { ⌜ (length (now vram) ≡ videoRamSize)
+        × (length (now palette) ≡ paletteRamSize)
+        × Decoded attrs
+        × Ranged turn
+        × (i ≤ 127) ⌝ }
+    ensures { λ c.
+        ⌜ c .0 ≡ pointColor reading mapping (now (vram .entry)) (now (palette .entry)) attrs turn i ⌝ }
+{
+    let width = attrs.width;
+    let height = attrs.height;
+    let x = point_at(turn.x, turn.pa, i, width);
+    let y = point_at(turn.y, turn.pc, i, height);
+    if is_inside(x, POINT_BIAS, width) & is_inside(y, POINT_BIAS, height) {
+        let sprite_x = x - POINT_BIAS;
+        let sprite_y = y - POINT_BIAS;
+        read_texel(vram, palette, attrs, reading, mapping, sprite_x, sprite_y)
+    } else {
+        Rgb15::TRANSPARENT
+    }
+}
+
+// The colours of an affine sprite's box on a line, for its columns from `from` up to `to`; the others are transparent.
+pub fn affine_row(
+    vram: &[u8],
+    palette: &[u8],
+    attrs: ObjAttrs,
+    reading: Reading,
+    mapping: ObjMapping,
+    turn: Turn,
+    from: usize,
+    to: usize,
+) -> [Rgb15; 128]
+    requires { ⌜ (length (now vram) ≡ videoRamSize)
+        × (length (now palette) ≡ paletteRamSize)
+        × Decoded attrs
+        × Ranged turn
+        × (from ≤ to)
+        × (to ≤ 128) ⌝ }
+    ensures { λ r.
+        ⌜ r
+        ≡ tab
+        (λ i.
+        rgb
+        (affineTexel reading mapping (now (vram .entry)) (now (palette .entry)) attrs turn from to
+        i))
+        128 ⌝ }
+{
+    let mut row = [Rgb15::TRANSPARENT; 128];
+    let mut i = from;
+    while i < to {
+        row[i] = point_color(vram, palette, attrs, reading, mapping, turn, i);
+        i += 1;
+    }
+    row
 }

@@ -1,10 +1,9 @@
-// What the pass over sprites shows of one on a line (gpu/render/obj.rs): the row of colours of a normal sprite, and the points
-// of an affine one.
+// What the pass over sprites shows of one on a line (gpu/render/obj.rs): the row of colours of a normal sprite, and that of an
+// affine one's box.
 mod affine;
 mod normal;
 
-pub use affine::POINT_BIAS;
 pub use affine::Turn;
-pub use affine::point_at;
+pub use affine::affine_row;
 pub use affine::turn_line;
 pub use normal::texel_row;

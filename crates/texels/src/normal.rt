@@ -101,7 +101,7 @@ pub fn texel_row(
     reading: Reading,
     mapping: ObjMapping,
     y: usize,
-) -> [Rgb15; 64]
+) -> [Rgb15; 128]
     requires { ⌜ (length (now vram) ≡ videoRamSize)
         × (length (now palette) ≡ paletteRamSize)
         × Decoded attrs
@@ -111,10 +111,10 @@ pub fn texel_row(
         ⌜ r
         ≡ tab
         (λ x. rgb (rowTexel reading mapping (now (vram .entry)) (now (palette .entry)) attrs y x))
-        64 ⌝ }
+        128 ⌝ }
 {
     let tiles = attrs.width / 8;
-    let mut row = [Rgb15::TRANSPARENT; 64];
+    let mut row = [Rgb15::TRANSPARENT; 128];
     let mut t: usize = 0;
     while t < tiles {
         let eight = shown_tile(vram, palette, attrs, reading, mapping, y, t);

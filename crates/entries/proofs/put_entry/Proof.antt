@@ -3,8 +3,8 @@
 use native.Mathlib.Omega.{arith}
 use lib.ListN.{length-set}
 use borrow.Author.Needs.{needs}
-use Rattle.rows.specs.Bytes.{putFrom}
 use Rattle.rows.specs.Cells.{putCell}
+use Rattle.rows.proofs.Bytes.{putAt, putFrom-at}
 use Rattle.entries.specs.Entry.{entryCells}
 use Rattle.entries.proofs.put_entry.Statement.{statement}
 use Rattle.entries.proofs.put_entry.Tie as tie
@@ -19,8 +19,8 @@ slice-write-entries-4 : tie.Need-slice-write-entries-4
 slice-write-entries-4 c = simp length-set (omega arith)
 
 returns : tie.Need-returns
-unfolding putCell putFrom entryCells
-returns c = search needs
+unfolding putCell putAt entryCells
+returns c = rw putFrom-at (search needs)
 
 pub put-entry-spec : {M : Type 1} → statement M
 put-entry-spec =

@@ -2,8 +2,10 @@
 -- Assumes nothing.
 use Prim.Native.Nat.{_-_}
 use native.Mathlib.Omega.{arith}
+use borrow.Author.Needs.{needs}
 use Rattle.rows.proofs.Passed.{composed-all}
 use Rattle.entries.specs.Entry.{entryCells}
+use Rattle.sprites.proofs.Drawn.{drawn-onLine}
 use Rattle.obj.proofs.Steps.{SpritesUpTo, sprites-first, sprites-next, source-is, putSprites-is}
 use Rattle.obj.proofs.render_objs.Statement.{statement}
 use Rattle.obj.proofs.render_objs.Tie as tie
@@ -22,6 +24,14 @@ loop-holds c =
     let known = c .before .before .before .before .before .before .before .before in
     sprites-first _ _ _ (omega arith) (known .slice-known .given) (c .next-obj .ensures)
 
+render-obj-requires : tie.Need-render-obj-requires Inv-loop μ-loop
+render-obj-requires c κs =
+    let looped = c .before .before in
+    let start = looped .before .before .before .before .before .before .before .before .before .before in
+    let drew = looped .loop .inv .next (omega arith) in
+    let on = drawn-onLine (start .args .reading) _ _ (start .args .line) drew in
+    search needs
+
 loop-again : tie.Need-loop-again Inv-loop μ-loop
 loop-again c =
     let put = c .before .before .before in
@@ -33,7 +43,7 @@ returns c =
     let made = c .before .before .before in
     let at = made .before .before .before .before .before .before .before .before .args in
     putSprites-is (at .reading) (at .line) (at .entries .now) (omega arith)
-    (composed-all entryCells (c .before .loop .inv) (omega arith))
+    (composed-all entryCells (c .before .loop .inv .composed) (omega arith))
     (source-is _ (made .before .before .read-dispcnt .ensures) (made .before .obj-mapping .ensures)
     (made .obj-tiles-start .ensures))
 
@@ -48,7 +58,7 @@ render-objs-spec =
     (λ c κs. omega arith)
     (λ c κs. omega arith)
     loop-holds
-    (λ c κs. omega arith)
+    render-obj-requires
     (λ c. omega arith)
     (λ c κs. omega arith)
     (λ c. omega arith)

@@ -6,22 +6,22 @@ use Rattle.texels.proofs.Turns.{scaled-bound}
 use Rattle.texels.proofs.affine.point_at.Statement.{statement}
 use Rattle.texels.proofs.affine.point_at.Tie as tie
 
-mul-result : tie.Need-mul-result
-mul-result c = let at = c .args in omega (arith, scaled-bound (at .p) (at .i) 127 (search needs) (search needs))
+mul-pixel-of : tie.Need-mul-pixel-of
+mul-pixel-of c = let at = c .args in omega (arith, scaled-bound (at .p) (at .i) 127 (search needs) (search needs))
 
-add-result : tie.Need-add-result
-add-result c = let at = c .args in omega (arith, scaled-bound (at .p) (at .i) 127 (search needs) (search needs))
+add-pixel-of : tie.Need-add-pixel-of
+add-pixel-of c = let at = c .args in omega (arith, scaled-bound (at .p) (at .i) 127 (search needs) (search needs))
 
-add-result-2 : tie.Need-add-result-2
-add-result-2 c = let at = c .args in omega (arith, scaled-bound (at .p) (at .i) 127 (search needs) (search needs))
+pixel-of-requires : tie.Need-pixel-of-requires
+pixel-of-requires c κs = let at = c .args in omega (arith, scaled-bound (at .p) (at .i) 127 (search needs) (search needs))
 
 pub point-at-spec : {M : Type 1} → statement M
 point-at-spec =
     tie.close
     (tie.spec
-    mul-result
-    add-result
+    mul-pixel-of
+    add-pixel-of
     (search needs)
     (search needs)
-    add-result-2
+    pixel-of-requires
     (search needs))

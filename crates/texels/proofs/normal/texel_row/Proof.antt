@@ -21,9 +21,12 @@ Inv-loop vram palette attrs reading mapping y tiles row₀ t₀ row t =
 abbrev μ-loop : tie.MeasureT-loop
 μ-loop vram palette attrs reading mapping y tiles row₀ t₀ row t = tiles - t
 
--- A row of 64 columns has eight tiles.
+-- A sprite has at most eight tiles a row.
 of-eight : {width t : ℕ} → width ≤ 64 → t < width / 8 → t < 8
 of-eight width≤ t< = omega arith
+
+in-tiles : {t : ℕ} → t < 8 → t < 16
+in-tiles t< = omega arith
 
 in-width : {width t k : ℕ} → t < width / 8 → k < 8 → 8 * t + k < width
 in-width t< k< = omega arith
@@ -31,10 +34,10 @@ in-width t< k< = omega arith
 past-width : {width t x : ℕ} → width % 8 ≡ 0 → width / 8 ≤ t → 8 * t ≤ x → width ≤ x
 past-width whole t≥ x≥ = omega arith
 
-in-row : {t : ℕ} (k : ℕ) → k < 8 → t < 8 → 8 * t + k < 64
+in-row : {t : ℕ} (k : ℕ) → k < 8 → t < 8 → 8 * t + k < 128
 in-row k k< t< = omega arith
 
-first-in-row : {t : ℕ} → t < 8 → 8 * t < 64
+first-in-row : {t : ℕ} → t < 8 → 8 * t < 128
 first-in-row t< = omega arith
 
 first-fits : {t : ℕ} → t < 8 → Fits w64 (8 * t)
@@ -75,7 +78,7 @@ loop-again c =
     let turn = made .before in
     let at = turn .before .before .before .before .before .args in (
       next-tile (turn .loop-test .taken),
-      tilesSet-more _ _ _ (turn .before .loop .inv .1) (tile< turn) (made .shown-tile .ensures)
+      tilesSet-more _ _ _ (turn .before .loop .inv .1) (in-tiles (tile< turn)) (made .shown-tile .ensures)
           (λ k k<.
           ap rgb
           (sym
