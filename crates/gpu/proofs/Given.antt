@@ -1,5 +1,5 @@
 -- What a draw gives, by its verdict. No contract cites this file. Assumes nothing.
-use Prim.Native.Nat.{ℕ, zero, suc, _≤_, _<_}
+use Prim.Native.Nat.{ℕ, zero, suc, _≤_}
 use native.Mathlib.Omega.{arith}
 use mathlib.Core.Path.{_≡_, refl, sym, ap, _∙_}
 use mathlib.Core.Bool.{Bool, true, false, not, cond, _&&_, false≢true}
@@ -10,7 +10,7 @@ use lib.ListN.{length}
 use borrow.Author.Tests.{ltb-false, leb-false, not-false}
 use denote.Enum.Declared.{tagOf}
 use types.Run.{OneOf, miss}
-use Rattle.memory.specs.Sizes.{displayHeight}
+use Rattle.memory.specs.Sizes.{displayHeight, outputSize}
 use Rattle.regs.specs.Registers.{dispcnt, bldy}
 use Rattle.regs.specs.Display.{mode, forceBlank, enableObj}
 use Rattle.regs.specs.Reading.{readingOf, counted}
@@ -20,9 +20,9 @@ use Rattle.sprites.specs.Sprite.{source}
 use Rattle.obj.specs.Put.{putSprites}
 use Rattle.obj.proofs.Shapes.{shapedRow-after}
 use Rattle.references.specs.References.{inRanges}
-use Rattle.judge.specs.Judge.{Call, callOf, outputSize, haveLengths, lineVerdict, verdict, numberOf}
+use Rattle.judge.specs.Judge.{Call, callOf, haveLengths, verdict, numberOf}
 use Rattle.gpu.specs.Line.{entriesAfter, lineAfter, blankLine}
-use Rattle.judge.specs.Lengths.{Lengths}
+use Rattle.judge.specs.Rest.{lineVerdict}
 use Rattle.gpu.specs.Ready.{Ready}
 use Rattle.gpu.specs.Draw.{given, draw, Draws}
 use Rattle.judge.specs.declared.Verdict.{Verdict}
@@ -37,7 +37,7 @@ use Rattle.judge.specs.declared.Verdict.the-variants.{
   Blank,
   Accepted,
 }
-use Rattle.judge.proofs.Verdicts.{lengths-are}
+use Rattle.judge.proofs.Verdicts.{lengths-are, verdict-rest}
 use Rattle.judge.proofs.Verdict.{the-type}
 
 -- ---- what a draw gives
@@ -110,9 +110,9 @@ module _ (c : Call) (entries output : List ℕ) where
   registers = c .memory .registers
 
   pub ready-accepted : verdict c entries output ≡ Accepted → Ready c entries output
-  unfolding verdict lineVerdict
+  unfolding lineVerdict
   ready-accepted h =
-      let p1 = passed isAccepted (ltb 1 (c .reading)) BadReading _ Accepted refl refl h in
+      let p1 = passed isAccepted (ltb 1 (c .reading)) BadReading _ Accepted refl refl (sym (verdict-rest c entries output) ∙ h) in
       let p2 = passed isAccepted (not (haveLengths (c .memory) entries output)) BadLength _ Accepted refl refl (p1 .1) in
       let p3 = passed isAccepted (leb displayHeight (c .line)) BadLine _ Accepted refl refl (p2 .1) in
       let p4 = passed isAccepted (forceBlank (dispcnt registers)) Blank _ Accepted refl refl (p3 .1) in

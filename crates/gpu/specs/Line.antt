@@ -5,6 +5,7 @@ use mathlib.Core.Bool.{cond}
 use mathlib.Core.List.{List}
 use Rattle.rows.specs.Cells.{cellAt, rowOf}
 use Rattle.rows.specs.Words.{wordCells}
+use Rattle.memory.specs.Sizes.{displayWidth}
 use Rattle.memory.specs.Palette.{backdrop}
 use Rattle.regs.specs.Registers.{dispcnt}
 use Rattle.regs.specs.Display.{enableObj}
@@ -37,8 +38,8 @@ pixelAt c after column =
 
 -- The line: all 240 pixels, as 24-bit colour in four bytes.
 unfoldable pub lineAfter : Call → List ℕ → List ℕ
-lineAfter c after = rowOf wordCells (λ column. pixelAt c after column) 240
+lineAfter c after = rowOf wordCells (λ column. pixelAt c after column) displayWidth
 
 -- Forced blank writes 0xf8f8f8 to all 240 pixels.
 abbrev pub blankLine : List ℕ
-blankLine = rowOf wordCells (λ _. 0xf8f8f8) 240
+blankLine = rowOf wordCells (λ _. 0xf8f8f8) displayWidth

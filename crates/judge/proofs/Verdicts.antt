@@ -1,21 +1,21 @@
 -- What each test of a draw's input makes of the verdict. No contract cites this file. Assumes nothing.
 use Prim.Native.Nat.{ℕ, _<_, _≤_}
-use mathlib.Core.Path.{_≡_}
-use mathlib.Core.Bool.{Bool, true, false, _&&_}
+use mathlib.Core.Path.{_≡_, refl, ap}
+use mathlib.Core.Bool.{Bool, true, false, cond, not, _&&_}
 use mathlib.Core.List.{List}
 use lib.Dec.{eqb, leb, ltb}
 use lib.ListN.{length}
 use borrow.Author.Tests.{eqb-true, lt-ltb, le-ltb, le-leb, lt-leb}
-use Rattle.signed.specs.Signed.{inRange}
 use Rattle.signed.proofs.Order.{and-both}
 use Rattle.memory.specs.Memory.{Memory}
-use Rattle.memory.specs.Sizes.{videoRamSize, paletteRamSize, oamSize, registersSize}
+use Rattle.memory.specs.Sizes.{videoRamSize, paletteRamSize, oamSize, registersSize, displayHeight, outputSize}
 use Rattle.regs.specs.Registers.{dispcnt, bldy}
 use Rattle.regs.specs.Display.{mode, forceBlank}
 use Rattle.references.specs.References.{References, inRanges}
 use Rattle.entries.specs.Entry.{entriesSize, shapedRow}
-use Rattle.judge.specs.Judge.{Call, outputSize, haveLengths, lineVerdict, verdict}
+use Rattle.judge.specs.Judge.{Call, haveLengths, verdict}
 use Rattle.judge.specs.Lengths.{Lengths}
+use Rattle.judge.specs.Rest.{lineVerdict}
 use Rattle.judge.specs.declared.Verdict.{Verdict}
 use Rattle.judge.specs.declared.Verdict.the-variants.{
   BadReading,
@@ -88,7 +88,33 @@ module _ (reading : ℕ) (references : References) (registers entries : List ℕ
           unfolding lineVerdict
           gives-accepted s = rw (b, le-ltb 5 _ m, y, r, s)
 
+-- Forced blank tested in each row is forced blank tested once.
+staircase : (blank late r high out ill : Bool)
+    → cond (not blank && late) BadMode
+    (cond (not blank && r && high) BadBldy
+    (cond (not blank && out) BadReference
+    (cond (not blank && ill) BadEntry
+    (cond (not blank) Accepted Blank))))
+    ≡ cond blank Blank (cond late BadMode (cond (r && high) BadBldy (cond out BadReference (cond ill BadEntry Accepted))))
+staircase true late r high out ill = refl
+staircase false late r high out ill = refl
+
 module _ (c : Call) (entries output : List ℕ) where
+  -- The verdict is that of the first three tests, and then the rest's.
+  pub verdict-rest : verdict c entries output
+      ≡ cond (ltb 1 (c .reading)) BadReading
+      (cond (not (haveLengths (c .memory) entries output)) BadLength
+      (cond (leb displayHeight (c .line)) BadLine
+      (lineVerdict (c .reading) (c .references) (c .memory .registers) entries)))
+  unfolding verdict lineVerdict
+  verdict-rest =
+      ap
+      (λ rest.
+      cond (ltb 1 (c .reading)) BadReading
+      (cond (not (haveLengths (c .memory) entries output)) BadLength (cond (leb displayHeight (c .line)) BadLine rest)))
+      (staircase (forceBlank (dispcnt (c .memory .registers))) (ltb 5 (mode (dispcnt (c .memory .registers))))
+      (eqb (c .reading) 0) (ltb 16 (bldy (c .memory .registers))) (not (inRanges (c .references))) (not (shapedRow entries)))
+
   pub gives-reading-number : 1 < c .reading → BadReading ≡ verdict c entries output
   unfolding verdict
   gives-reading-number n = rw (lt-ltb 1 _ n)
@@ -105,5 +131,4 @@ module _ (c : Call) (entries output : List ℕ) where
 
       pub gives-rest : c .line < 160
           → lineVerdict (c .reading) (c .references) (c .memory .registers) entries ≡ verdict c entries output
-      unfolding verdict
-      gives-rest l = rw (le-ltb 1 _ n, h, lt-leb 160 _ l)
+      gives-rest l = rw (verdict-rest, le-ltb 1 _ n, h, lt-leb 160 _ l)

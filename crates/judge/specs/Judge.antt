@@ -7,7 +7,7 @@ use lib.Dec.{eqb, leb, ltb}
 use lib.IntN.{ℤ}
 use lib.ListN.{length}
 use Rattle.memory.specs.Memory.{Memory}
-use Rattle.memory.specs.Sizes.{videoRamSize, paletteRamSize, oamSize, registersSize, displayHeight}
+use Rattle.memory.specs.Sizes.{videoRamSize, paletteRamSize, oamSize, registersSize, displayHeight, outputSize}
 use Rattle.regs.specs.Registers.{dispcnt, bldy}
 use Rattle.regs.specs.Display.{mode, forceBlank}
 use Rattle.references.specs.References.{References, inRanges}
@@ -42,10 +42,6 @@ callOf reading line x2 y2 x3 y3 vram palette oam registers =
       memory = record { vram = vram; palette = palette; oam = oam; registers = registers };
     }
 
--- The output has 960 bytes, 240 of 4.
-abbrev pub outputSize : ℕ
-outputSize = 960
-
 -- Whether each buffer has its length.
 unfoldable pub haveLengths : Memory → List ℕ → List ℕ → Bool
 haveLengths m entries output =
@@ -56,23 +52,21 @@ haveLengths m entries output =
     && eqb (length entries) entriesSize
     && eqb (length output) outputSize
 
--- What a draw with its lengths and a line of the screen is found to be; forced blank isn't stopped by 4 to 7.
-unfoldable pub lineVerdict : ℕ → References → List ℕ → List ℕ → Verdict
-lineVerdict reading references registers entries =
-    cond (forceBlank (dispcnt registers)) Blank
-    (cond (ltb 5 (mode (dispcnt registers))) BadMode
-    (cond (eqb reading 0 && ltb 16 (bldy registers)) BadBldy
-    (cond (not (inRanges references)) BadReference
-    (cond (not (shapedRow entries)) BadEntry
-    Accepted))))
+-- Forced blank is off.
+abbrev pub blankOff : Call → Bool
+blankOff c = not (forceBlank (dispcnt (c .memory .registers)))
 
--- What a draw is found to be, tested in the order of the numbers.
+-- What a draw is found to be: the first row of the table that applies, and drawn if none does.
 unfoldable pub verdict : Call → List ℕ → List ℕ → Verdict
 verdict c entries output =
     cond (ltb 1 (c .reading)) BadReading
     (cond (not (haveLengths (c .memory) entries output)) BadLength
     (cond (leb displayHeight (c .line)) BadLine
-    (lineVerdict (c .reading) (c .references) (c .memory .registers) entries)))
+    (cond (blankOff c && ltb 5 (mode (dispcnt (c .memory .registers)))) BadMode
+    (cond (blankOff c && eqb (c .reading) 0 && ltb 16 (bldy (c .memory .registers))) BadBldy
+    (cond (blankOff c && not (inRanges (c .references))) BadReference
+    (cond (blankOff c && not (shapedRow entries)) BadEntry
+    (cond (blankOff c) Accepted Blank)))))))
 
 -- The number of each.
 unfoldable pub numberOf : Verdict → ℕ

@@ -5,9 +5,8 @@ use mathlib.Core.Path.{_≡_}
 use mathlib.Core.List.{List}
 use lib.ListN.{length}
 use Rattle.memory.specs.Memory.{Memory}
-use Rattle.memory.specs.Sizes.{videoRamSize, paletteRamSize, oamSize, registersSize}
+use Rattle.memory.specs.Sizes.{videoRamSize, paletteRamSize, oamSize, registersSize, outputSize}
 use Rattle.entries.specs.Entry.{entriesSize}
-use Rattle.judge.specs.Judge.{outputSize}
 
 -- Every buffer has its length.
 pub record Lengths (m : Memory) (entries output : List ℕ) : Type 0 where

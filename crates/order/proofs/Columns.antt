@@ -7,10 +7,8 @@ use mathlib.Core.List.{List, [], _∷_, _++_, append-nil, append-assoc, List·Me
 use mathlib.Core.Logic.{inl, ⊎-elim}
 use Rattle.rows.specs.Cells.{cellAt}
 use Rattle.rows.proofs.Cells.{cellAt-rowOf}
-use Rattle.sprites.specs.Sprite.{source}
 use Rattle.entries.specs.Entry.{entryCells, windowMark, resetEntry}
-use Rattle.obj.specs.Put.{entryUpTo}
-use Rattle.obj.specs.Order.{Draw, Pixel, Holds, none, pixelsUpTo, windowUpTo}
+use Rattle.obj.specs.Order.{Pixel, Holds, none, pixelsUpTo, windowUpTo}
 use Rattle.entries.specs.declared.Entry.{Entry}
 use Rattle.obj.proofs.Order.{Held, held-sprites}
 use Rattle.obj.proofs.Windows.{windowMark-sprites}

@@ -12,7 +12,9 @@ use Rattle.regs.specs.Registers.{dispcnt, bldy}
 use Rattle.regs.specs.Display.{mode, forceBlank}
 use Rattle.entries.specs.Entry.{shapedRow}
 use Rattle.references.specs.References.{inRanges}
-use Rattle.judge.specs.Judge.{Call, haveLengths, lineVerdict, verdict, numberOf}
+use Rattle.judge.specs.Judge.{Call, haveLengths, verdict, numberOf}
+use Rattle.judge.specs.Rest.{lineVerdict}
+use Rattle.judge.proofs.Verdicts.{verdict-rest}
 use Rattle.gpu.specs.Draw.{given, draw}
 use Rattle.judge.specs.declared.Verdict.{Verdict}
 use Rattle.judge.specs.declared.Verdict.the-variants.{
@@ -42,16 +44,17 @@ module _ (c : Call) (entries output : List ℕ) where
       → P BadMode → P BadBldy → P BadReference → (shapedRow entries ≡ false → P BadEntry)
       → (blanked ≡ false → P Accepted)
       → P (verdict c entries output)
-  unfolding verdict lineVerdict
+  unfolding lineVerdict
   verdict-cases P reading length line blank bad-mode bad-bldy reference entry accepted =
-      cond-cases P (ltb 1 (c .reading)) (λ _. reading)
+      rw (verdict-rest c entries output)
+      (cond-cases P (ltb 1 (c .reading)) (λ _. reading)
       (λ _. cond-cases P (not (haveLengths (c .memory) entries output)) (λ _. length)
       (λ _. cond-cases P (leb displayHeight (c .line)) (λ _. line)
       (λ _. cond-cases P blanked blank
       (λ lit. cond-cases P (ltb 5 (mode (dispcnt (c .memory .registers)))) (λ _. bad-mode)
       (λ _. cond-cases P (eqb (c .reading) 0 && ltb 16 (bldy (c .memory .registers))) (λ _. bad-bldy)
       (λ _. cond-cases P (not (inRanges (c .references))) (λ _. reference)
-      (λ _. cond-cases P (not (shapedRow entries)) (λ e. entry (not-true _ e)) (λ _. accepted lit))))))))
+      (λ _. cond-cases P (not (shapedRow entries)) (λ e. entry (not-true _ e)) (λ _. accepted lit)))))))))
 
   -- A draw on a row of well-shaped entries isn't refused for one.
   pub number-shaped : shapedRow entries ≡ true → draw c entries output .number ≢ 7

@@ -11,13 +11,13 @@ use Rattle.rows.specs.Tab.{tab}
 use Rattle.rows.proofs.Tab.{length-tab, getD-tab}
 use Rattle.rows.proofs.Cells.{length-rowOf}
 use Rattle.memory.specs.Memory.{half}
-use Rattle.memory.specs.Sizes.{videoRamSize, paletteRamSize, oamSize, registersSize}
+use Rattle.memory.specs.Sizes.{videoRamSize, paletteRamSize, oamSize, registersSize, outputSize}
 use Rattle.regs.specs.Registers.{DISPCNT, BLDY}
 use Rattle.regs.specs.Display.{mode, forceBlank}
 use Rattle.entries.specs.Entry.{entryCells, entriesSize, shapedRow, resetRow}
 use Rattle.entries.proofs.Shapes.{shapedRow-reset}
 use Rattle.references.specs.References.{inRanges}
-use Rattle.judge.specs.Judge.{Call, outputSize, haveLengths, lineVerdict, verdict}
+use Rattle.judge.specs.Judge.{Call, haveLengths, verdict}
 use Rattle.gpu.specs.Line.{entriesAfter, lineAfter}
 use Rattle.gpu.specs.Draw.{Draws}
 use Rattle.judge.specs.declared.Verdict.the-variants.{Accepted}
@@ -62,7 +62,7 @@ module _ (entries output : List ℕ) (l : Lendable entries output) where
       (firstLine (tab vram videoRamSize) (tab palette paletteRamSize) (tab oam oamSize) (tab registers registersSize))
       entries output
       ≡ Accepted
-  unfolding verdict haveLengths lineVerdict inRanges inRange
+  unfolding verdict haveLengths inRanges inRange
   accepted-line vram palette oam registers blank-is mode-is bldy-is =
       rw (
         length-tab vram videoRamSize,

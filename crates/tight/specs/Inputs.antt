@@ -6,8 +6,8 @@ use mathlib.Core.List.{List}
 use lib.Dec.{eqb}
 use lib.IntN.{pos}
 use Rattle.rows.specs.Tab.{tab}
-use Rattle.memory.specs.Sizes.{videoRamSize, paletteRamSize, oamSize, registersSize}
-use Rattle.judge.specs.Judge.{Call, callOf, outputSize}
+use Rattle.memory.specs.Sizes.{videoRamSize, paletteRamSize, oamSize, registersSize, outputSize}
+use Rattle.judge.specs.Judge.{Call, callOf}
 
 -- A buffer of zeros.
 abbrev pub zeros : ℕ → List ℕ
