@@ -3,6 +3,7 @@
 use mathlib.Core.Path.{_≡_}
 use mathlib.Core.List.{List, [], _∷_}
 use Rattle.rows.specs.Tab.{tab}
+use Rattle.memory.specs.Sizes.{displayWidth}
 use Rattle.entries.specs.Entry.{resetRow}
 use Rattle.gpu.specs.Draw.{draw}
 use Rattle.order.specs.Draws.{Attempt, rowAfter}
@@ -12,7 +13,7 @@ use Rattle.drawn.specs.Draw.{drawRecords}
 
 -- The reset row of records.
 abbrev pub resetRecords : List ObjBufferEntry
-resetRecords = tab (λ _. resetRecord) 240
+resetRecords = tab (λ _. resetRecord) displayWidth
 
 -- The row that draws leave, one after another.
 unfoldable pub recordsAfter : List Attempt → List ObjBufferEntry → List ObjBufferEntry

@@ -15,7 +15,8 @@ use Rattle.memory.specs.declared.PixelFormat.the-variants.{BPP8}
 use Rattle.regs.specs.Background.{BgControlOf, charBlock, screenBlock}
 use Rattle.regs.specs.declared.BgControl.{BgControl}
 use Rattle.regular.specs.Regular.{tileColor}
-use Rattle.points.specs.Point.{pointColor, coordinate, Side}
+use Rattle.points.specs.Biased.{coordinate, Side}
+use Rattle.points.specs.Point.{pointColor}
 use Rattle.points.specs.declared.ViewPort.{ViewPort}
 use Rattle.points.proofs.Points.{point-is}
 use Rattle.background.specs.Bitmap.{BitmapViewPort, bitmapStart, bitmapPixel, bitmapColor}

@@ -5,7 +5,7 @@ use mathlib.Core.Bool.{Bool, cond, _&&_}
 use mathlib.Core.List.{List}
 use Rattle.rgb15.specs.Colour.{blendWith, black, white}
 use Rattle.regs.specs.Registers.{bldcnt, bldalpha, bldy}
-use Rattle.window.specs.Windows.{permits}
+use Rattle.window.specs.Windows.{permitsEffects}
 use Rattle.blend.specs.Layers.{targets}
 use Rattle.blend.specs.Blend.{target1, target2, blendMode, eva, evb}
 use Rattle.regs.specs.Reading.{counted}
@@ -37,7 +37,7 @@ effect registers flags semi p =
     let second = targets (target2 control) (p .bottom .kind) in
     cond ((isObject (p .top .kind) && semi) && second)
     spriteBlend
-    (cond (permits flags 5 && targets (target1 control) (p .top .kind))
+    (cond (permitsEffects flags && targets (target1 control) (p .top .kind))
     (controlEffect (blendMode control) second)
     none)
 

@@ -7,7 +7,7 @@ use mathlib.Core.Bool.{Bool, true, false, cond, not, _&&_}
 use mathlib.Core.List.{List, [], _∷_}
 use lib.Dec.{eqb, leb, ltb}
 use lib.ListN.{getD}
-use borrow.Author.Tests.{ltb-true, ne-eqb}
+use borrow.Author.Tests.{ltb-true}
 use Rattle.bits.specs.Bits.{bit}
 use Rattle.rgb15.specs.Colour.{isTransparent}
 use Rattle.rows.specs.Tab.{tab}
@@ -171,7 +171,12 @@ module _ (registers : List ℕ) (semi : Bool) where
       go false = refl
 
   isObject-background : (bg : ℕ) → bg < 4 → isObject (backgroundLayer bg) ≡ false
-  isObject-background bg bg< = rw (layerBit-background bg bg<) (ne-eqb bg 4 (λ e. omega arith))
+  unfolding backgroundLayer
+  isObject-background zero bg< = refl
+  isObject-background (suc zero) bg< = refl
+  isObject-background (suc (suc zero)) bg< = refl
+  isObject-background (suc (suc (suc zero))) bg< = refl
+  isObject-background (suc (suc (suc (suc bg)))) bg< = absurd (omega arith)
 
   -- A layer over what is behind it, if it counts.
   put-over : (l : Layer) (behind : Pair) (t : Bool)

@@ -1,19 +1,26 @@
 -- The two layers of a column (01, "Windows and blending", its first paragraph; GBATEK, "LCD I/O BG Control", "LCD I/O Window
 -- Feature", "LCD I/O Color Special Effects"). Assumes nothing.
 use Prim.Native.Nat.{ℕ}
-use mathlib.Core.Bool.{Bool, cond, not, _&&_}
+use mathlib.Core.Bool.{Bool, true, false, cond, not, _&&_}
 use mathlib.Core.List.{List, map}
-use lib.Dec.{eqb, leb}
+use lib.Dec.{leb}
 use lib.ListN.{getD}
 use Rattle.rgb15.specs.Colour.{isTransparent}
 use Rattle.regs.specs.Registers.{dispcnt, bgcnt}
 use Rattle.regs.specs.Display.{enableObj}
 use Rattle.regs.specs.Background.{priority}
 use Rattle.sorting.specs.Ordered.{keep, ordered}
-use Rattle.window.specs.Windows.{permits}
+use Rattle.window.specs.Windows.{permits, permitsObjects}
 use Rattle.blend.specs.Layers.{backgroundLayer, layerBit}
 use Rattle.blend.specs.declared.layer.RenderLayerKind.{RenderLayerKind}
-use Rattle.blend.specs.declared.layer.RenderLayerKind.the-variants.{Objects, Backdrop}
+use Rattle.blend.specs.declared.layer.RenderLayerKind.the-variants.{
+  Background0,
+  Background1,
+  Background2,
+  Background3,
+  Objects,
+  Backdrop,
+}
 use Rattle.entries.specs.declared.Entry.{Entry}
 
 -- A layer at a column: its kind, its priority number and its colour.
@@ -24,7 +31,12 @@ pub record Layer : Type 0 where
 
 -- Whether the layer is that of objects.
 abbrev pub isObject : RenderLayerKind → Bool
-isObject kind = eqb (layerBit kind) (layerBit Objects)
+isObject Background0 = false
+isObject Background1 = false
+isObject Background2 = false
+isObject Background3 = false
+isObject Objects = true
+isObject Backdrop = false
 
 -- A background as a layer, with its colour at the column.
 abbrev pub background : List ℕ → ℕ → ℕ → Layer
@@ -44,14 +56,15 @@ backdropLayer color = record { kind = Backdrop; priority = 4; color = color }
 abbrev pub objectLayer : Entry → Layer
 objectLayer e = record { kind = Objects; priority = e .priority; color = e .color .0 }
 
--- A background counts if the region's flags permit it and its pixel is opaque.
+-- A background counts if the region's flags permit it and its pixel is opaque. Flags number the backgrounds as targets do
+-- (LCD I/O Window Feature, LCD I/O Color Special Effects).
 unfoldable pub counts : ℕ → Layer → Bool
 counts flags l = permits flags (layerBit (l .kind)) && not (isTransparent (l .color))
 
 -- Objects count if the flags permit them, sprites are on, and the pixel is opaque.
 unfoldable pub objectCounts : List ℕ → ℕ → Entry → Bool
 objectCounts registers flags e =
-    (permits flags (layerBit Objects) && enableObj (dispcnt registers)) && not (isTransparent (e .color .0))
+    (permitsObjects flags && enableObj (dispcnt registers)) && not (isTransparent (e .color .0))
 
 -- The two layers that a column's pixel is made of.
 pub record Pair : Type 0 where

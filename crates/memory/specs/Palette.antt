@@ -7,7 +7,11 @@ use Rattle.bits.specs.Bits.{bits}
 use Rattle.rgb15.specs.Colour.{transparent}
 use Rattle.memory.specs.Memory.{half}
 
--- Index 0 is transparent; else the halfword at 2 * index + 32 * bank (plus offset 0x200 for sprites), bit 15 cleared
+-- The sprites' half of the palette starts at 0x200 (LCD Color Palettes).
+abbrev pub PALRAM_OFS_FG : ℕ
+PALRAM_OFS_FG = 0x200
+
+-- Index 0 is transparent; else the halfword at 2 * index + 32 * bank (plus the offset for sprites), bit 15 cleared
 -- (LCD Color Palettes).
 unfoldable pub paletteColor : List ℕ → ℕ → ℕ → ℕ → ℕ
 paletteColor palette offset index bank =

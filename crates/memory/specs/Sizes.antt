@@ -25,3 +25,7 @@ displayWidth = 240
 -- The screen has 160 lines (LCD Dimensions and Timings).
 abbrev pub displayHeight : ℕ
 displayHeight = 160
+
+-- The output has 960 bytes, 240 of 4.
+abbrev pub outputSize : ℕ
+outputSize = 960

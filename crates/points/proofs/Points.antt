@@ -9,7 +9,8 @@ use borrow.Author.Tests.{not-true, not-false}
 use Rattle.rgb15.specs.Colour.{transparent}
 use Rattle.signed.specs.Signed.{signed16, down256, wrapped}
 use Rattle.signed.proofs.Difference.{up, subℕ-view}
-use Rattle.points.specs.Point.{transformBgPoint, shows, pointColor, coordinate}
+use Rattle.points.specs.Biased.{coordinate}
+use Rattle.points.specs.Point.{transformBgPoint, shows, pointColor}
 
 -- A coordinate inside is wrapped to itself.
 pub wrapped-inside : (q side : ℕ) → 0x1e0000 ≤ q → q - 0x1e0000 < side → wrapped (coordinate q) side ≡ q - 0x1e0000

@@ -1,10 +1,11 @@
 // Points of affine and bitmap backgrounds (gpu/render.rs).
 ghost use mathlib.Core.Path.{_≡_};
 ghost use mathlib.Core.Bool.{_&&_};
-ghost use Prim.Native.Nat.{_<_, _^_};
+ghost use Prim.Native.Nat.{_/_, _<_, _^_};
 ghost use lib.IntN.{pos, subℕ, _+ℤ_, _*ℤ_};
 ghost use Rattle.signed.specs.Signed.{down256, wrapped, within};
-ghost use Rattle.points.specs.Point.{shows, coordinate, Side};
+ghost use Rattle.points.specs.Biased.{coordinate, Side};
+ghost use Rattle.points.specs.Point.{shows};
 use signed::HALF_BIAS;
 
 // What a number is larger by than the coordinate that it stands for: a multiple of every side.
@@ -61,10 +62,17 @@ pub fn rem_euclid(q: u32, side: u32) -> u32
     }
 }
 
+// A sum divided by 256, rounded down: below zero too, since it is larger by 256 times the bias.
+fn down_256(sum: u32) -> u32
+    ensures { λ q. ⌜ q ≡ sum / 256 ⌝ }
+{
+    sum / 256
+}
+
 // A coordinate of the point of a column, from a lifted reference number and a lifted step.
 pub fn transform_bg_point(reference: u32, step: u32, screen_x: u32) -> u32
     requires { ⌜ (reference < 2 ^ 29) × (step < 2 ^ 16) × («screen_x» < 240) ⌝ }
     ensures { λ q. ⌜ down256 (subℕ reference (2 ^ 28) +ℤ pos «screen_x» *ℤ subℕ step (2 ^ 15)) ≡ coordinate q ⌝ }
 {
-    (reference + REFERENCE_RISE + screen_x * step - screen_x * HALF_BIAS) / 256
+    down_256(reference + REFERENCE_RISE + screen_x * step - screen_x * HALF_BIAS)
 }

@@ -7,6 +7,7 @@ use lib.ListN.{length, getD}
 use Rattle.rgb15.specs.Colour.{rgb}
 use Rattle.rows.specs.Cells.{cellAt, rowOf}
 use Rattle.rows.specs.Tab.{tab}
+use Rattle.memory.specs.Sizes.{displayWidth}
 use Rattle.entries.specs.Entry.{entryCells, resetEntry, semiMark, windowMark}
 use Rattle.entries.specs.declared.Entry.{Entry}
 use Rattle.records.specs.declared.entry.ObjBufferEntry.{ObjBufferEntry}
@@ -41,4 +42,4 @@ rowBytes records = rowOf entryCells (λ k. entryOf (getD records k resetRecord))
 
 -- The 240 records of a row of bytes.
 unfoldable pub recordsIn : List ℕ → List ObjBufferEntry
-recordsIn bytes = tab (λ k. recordOf (cellAt entryCells bytes k)) 240
+recordsIn bytes = tab (λ k. recordOf (cellAt entryCells bytes k)) displayWidth

@@ -1,4 +1,4 @@
-// The line-end step on records (gpu/mod.rs, `BgAffine` and `handle_hblank_enter`).
+// The line-end step on records (gpu/mod.rs, `BgAffine` and `handle_hblank_end`).
 ghost use mathlib.Core.Path.{_≡_};
 ghost use Rattle.records.specs.Step.{movedTo, stepRecords};
 use references::Stepped;

@@ -13,7 +13,7 @@ use Rattle.rows.specs.Words.{wordCells}
 use Rattle.rows.proofs.Cells.{putAll-all}
 use Rattle.references.specs.References.{References, inRanges}
 use Rattle.references.specs.Step.{Steps, referencesSize, referenceAt, referencesIn, wordsOf, bytesOf, sums, stepped, stepNumber, referencesAfter}
-use Rattle.references.specs.Step.{stepGiven, step, StepsTo}
+use Rattle.references.specs.Step.{bytesAfter, step, StepsTo}
 use Rattle.references.specs.declared.Stepped.{Stepped}
 use Rattle.references.proofs.Ranges.{references-are}
 
@@ -50,12 +50,12 @@ module _ (s : Steps) (bytes : List ℕ) where
 
   module _ (l : length bytes ≡ referencesSize) where
     pub step-refused : stepped s (referencesIn bytes) ≡ Stepped.Refused → StepsTo s bytes 6 bytes
-    unfolding step stepGiven stepNumber
+    unfolding step bytesAfter stepNumber
     step-refused e = rw (eq-eqb (length bytes) referencesSize l, e)
 
     pub step-done : {left : List ℕ} (x2 y2 x3 y3 : ℤ) → stepped s (referencesIn bytes) ≡ Stepped.To x2 y2 x3 y3
         → left ≡ bytesOf (record { x2 = x2; y2 = y2; x3 = x3; y3 = y3 }) → StepsTo s bytes 0 left
-    unfolding step stepGiven stepNumber
+    unfolding step bytesAfter stepNumber
     step-done x2 y2 x3 y3 e left-is = rw (eq-eqb (length bytes) referencesSize l, e, left-is)
 
 -- Four numbers put one after another are the bytes of the four.

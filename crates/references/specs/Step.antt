@@ -2,7 +2,7 @@
 -- Rotation/Scaling"). Assumes nothing.
 use Prim.Native.Nat.{ℕ}
 use mathlib.Core.Path.{_≡_}
-use mathlib.Core.Bool.{cond, _&&_}
+use mathlib.Core.Bool.{cond, not, _&&_}
 use mathlib.Core.List.{List, [], _∷_}
 use lib.Dec.{eqb}
 use lib.IntN.{ℤ, _+ℤ_}
@@ -67,21 +67,17 @@ pub record Answer : Type 0 where
   pub number : ℕ
   pub bytes : List ℕ
 
--- What each answer gives on lent bytes.
-unfoldable pub stepGiven : Stepped → List ℕ → Answer
-stepGiven Stepped.Refused bytes = record { number = stepNumber Stepped.Refused; bytes = bytes }
-stepGiven (Stepped.To x2 y2 x3 y3) bytes =
-    record {
-      number = stepNumber (Stepped.To x2 y2 x3 y3);
-      bytes = bytesOf (record { x2 = x2; y2 = y2; x3 = x3; y3 = y3 });
-    }
+-- The lent bytes after each answer; a refusal leaves them unchanged.
+unfoldable pub bytesAfter : Stepped → List ℕ → List ℕ
+bytesAfter Stepped.Refused bytes = bytes
+bytesAfter (Stepped.To x2 y2 x3 y3) bytes = bytesOf (record { x2 = x2; y2 = y2; x3 = x3; y3 = y3 })
 
 -- What the step on lent bytes gives; another length gives 2, tested before 6.
 unfoldable pub step : Steps → List ℕ → Answer
 step s bytes =
-    cond (eqb (length bytes) referencesSize)
-    (stepGiven (stepped s (referencesIn bytes)) bytes)
-    (record { number = 2; bytes = bytes })
+    let answer = stepped s (referencesIn bytes) in
+    cond (not (eqb (length bytes) referencesSize)) (record { number = 2; bytes = bytes })
+    (record { number = stepNumber answer; bytes = bytesAfter answer bytes })
 
 -- The step gives the number and leaves the bytes: its whole contract.
 abbrev pub StepsTo : Steps → List ℕ → ℕ → List ℕ → Type 0

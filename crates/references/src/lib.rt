@@ -1,4 +1,4 @@
-// The step of the reference numbers at a line's end (gpu/mod.rs, `handle_hblank_enter`).
+// The step of the reference numbers at a line's end (gpu/mod.rs, `handle_hblank_end`).
 ghost use mathlib.Core.Path.{_≡_};
 ghost use mathlib.Core.Bool.{true};
 ghost use Prim.Native.Nat.{_+_, _*_, _≤_};

@@ -46,13 +46,17 @@ pub record BgControlOf (w : ℕ) (b : BgControl) : Type 0 where
   pub wraparound-is : b .«affine_wraparound» ≡ affineWraparound w
   pub size-is : b .size ≡ size w
 
--- Tile bases lie 0x4000 bytes apart (LCD I/O BG Control).
+-- Where a tile base lies: they are 0x4000 bytes apart (LCD I/O BG Control).
 abbrev pub charBlock : ℕ → ℕ
 charBlock block = block * 0x4000
 
 -- Map bases lie 0x800 bytes apart (LCD I/O BG Control).
+abbrev pub SCREEN_BLOCK_SIZE : ℕ
+SCREEN_BLOCK_SIZE = 0x800
+
+-- Where a map base lies (LCD I/O BG Control).
 abbrev pub screenBlock : ℕ → ℕ
-screenBlock block = block * 0x800
+screenBlock block = block * SCREEN_BLOCK_SIZE
 
 -- Sizes 0 to 3 are 256, 512, 256 and 512 wide (LCD I/O BG Control).
 abbrev pub regularWidth : ℕ → ℕ

@@ -4,7 +4,7 @@ use Prim.Native.Nat.{ℕ, zero, suc, min}
 use Rattle.regs.specs.declared.reading.Reading.{Reading}
 use Rattle.regs.specs.declared.reading.Reading.the-variants.{R, H}
 
--- The reading of a number: 0 is R, 1 is H.
+-- The reading of a number: 0 is R, 1 is H, and so is any other, for which no draw is accepted.
 unfoldable pub readingOf : ℕ → Reading
 readingOf zero = R
 readingOf (suc _) = H

@@ -21,14 +21,8 @@ BG0VOFS = 0x12
 abbrev pub BG2PA : ℕ
 BG2PA = 0x20
 
-abbrev pub BG2PB : ℕ
-BG2PB = 0x22
-
 abbrev pub BG2PC : ℕ
 BG2PC = 0x24
-
-abbrev pub BG2PD : ℕ
-BG2PD = 0x26
 
 abbrev pub WIN0H : ℕ
 WIN0H = 0x40
@@ -77,17 +71,9 @@ vofs registers bg = bits 8 0 (half registers (BG0VOFS + 4 * bg))
 abbrev pub pa : List ℕ → ℕ → ℕ
 pa registers bg = half registers (BG2PA + 0x10 * (bg - 2))
 
--- What a line adds to x, as its word (LCD I/O BG Rotation/Scaling).
-abbrev pub pb : List ℕ → ℕ → ℕ
-pb registers bg = half registers (BG2PB + 0x10 * (bg - 2))
-
 -- What a column adds to y, as its word (LCD I/O BG Rotation/Scaling).
 abbrev pub pc : List ℕ → ℕ → ℕ
 pc registers bg = half registers (BG2PC + 0x10 * (bg - 2))
-
--- What a line adds to y, as its word (LCD I/O BG Rotation/Scaling).
-abbrev pub pd : List ℕ → ℕ → ℕ
-pd registers bg = half registers (BG2PD + 0x10 * (bg - 2))
 
 -- Window 0's columns (LCD I/O Window Feature).
 abbrev pub win0h : List ℕ → ℕ

@@ -9,7 +9,7 @@ use Rattle.memory.specs.Palette.{paletteColor}
 use Rattle.memory.specs.Tiles.{tileSize, paletteBank, tilePixel}
 use Rattle.memory.specs.declared.PixelFormat.{PixelFormat}
 use Rattle.tiles.specs.Flip.{flipped}
-use Rattle.regs.specs.Background.{palette256, characterBaseBlock, screenBaseBlock, size, charBlock, screenBlock}
+use Rattle.regs.specs.Background.{SCREEN_BLOCK_SIZE, palette256, characterBaseBlock, screenBaseBlock, size, charBlock, screenBlock}
 use Rattle.regs.specs.Background.{regularWidth, regularHeight, tileFormat}
 
 -- X = (column + hofs) mod W.
@@ -28,9 +28,9 @@ mapBlock width x y = x / 256 + width / 256 * (y / 256)
 abbrev pub mapOffset : ℕ → ℕ → ℕ
 mapOffset x y = 2 * (x / 8 % 32 + 32 * (y / 8 % 32))
 
--- The map's entry, each block 0x800 bytes from the screen base.
+-- The map's entry, each block 0x800 bytes further from the screen base.
 unfoldable pub mapEntry : List ℕ → ℕ → ℕ → ℕ → ℕ → ℕ
-mapEntry vram screen width x y = half vram (screen + 0x800 * mapBlock width x y + mapOffset x y)
+mapEntry vram screen width x y = half vram (screen + SCREEN_BLOCK_SIZE * mapBlock width x y + mapOffset x y)
 
 -- Entry: tile bits 9-0.
 abbrev pub tileIndex : ℕ → ℕ

@@ -24,19 +24,19 @@ module _ {A : Type 0} {w : ℕ} (c : Codec A w) where
 
   pub length-putCell : (l : List ℕ) (k : ℕ) (a : A) → length (putCell c l k a) ≡ length l
   unfolding putCell
-  length-putCell l k a = length-putFrom l (w * k) 0 (c .enc a)
+  length-putCell l k a = length-putFrom l (w * k) (c .enc a)
 
   bytes-putCell-same : (l : List ℕ) (k : ℕ) (a : A) → w * k + w ≤ length l
-      → bytesFrom w (putCell c l k a) (w * k) 0 ≡ c .enc a
+      → bytesFrom w (putCell c l k a) (w * k) ≡ c .enc a
   unfolding putCell
   bytes-putCell-same l k a h = bytesFrom-putFrom-same w l (w * k) (c .enc a) (c .length-enc a) h
 
   bytes-putCell-other : (l : List ℕ) (k j : ℕ) (a : A) → (j ≡ k → ⊥)
-      → bytesFrom w (putCell c l k a) (w * j) 0 ≡ bytesFrom w l (w * j) 0
+      → bytesFrom w (putCell c l k a) (w * j) ≡ bytesFrom w l (w * j)
   unfolding putCell
   bytes-putCell-other l k j a h = go (ltb j k) refl
     where
-      go : (b : Bool) → ltb j k ≡ b → bytesFrom w (putCell c l k a) (w * j) 0 ≡ bytesFrom w l (w * j) 0
+      go : (b : Bool) → ltb j k ≡ b → bytesFrom w (putCell c l k a) (w * j) ≡ bytesFrom w l (w * j)
       go true t = bytesFrom-putFrom-before w l (w * k) (w * j) (c .enc a) (apart w (ltb-true j k t))
       go false t =
           let p : k ≤ j = ltb-false j k t in
@@ -55,7 +55,7 @@ module _ {A : Type 0} {w : ℕ} (c : Codec A w) where
   -- A cell put where it stands changes nothing, if its bytes are exact.
   pub putCell-same : (l : List ℕ) (k : ℕ) → Exact c l k → putCell c l k (cellAt c l k) ≡ l
   unfolding putCell
-  putCell-same l k e = ap (putFrom l (w * k) 0) e ∙ putFrom-same w l (w * k) 0
+  putCell-same l k e = ap (putFrom l (w * k)) e ∙ putFrom-same w l (w * k)
 
   -- ---- a row given by its cells
 
@@ -66,11 +66,11 @@ module _ {A : Type 0} {w : ℕ} (c : Codec A w) where
       length-append (rowOf c f n) (c .enc (f n))
       ∙ omega (arith, length-rowOf f n, c .length-enc (f n), mul-suc w n)
 
-  bytes-rowOf : (f : ℕ → A) (n k : ℕ) → k < n → bytesFrom w (rowOf c f n) (w * k) 0 ≡ c .enc (f k)
+  bytes-rowOf : (f : ℕ → A) (n k : ℕ) → k < n → bytesFrom w (rowOf c f n) (w * k) ≡ c .enc (f k)
   unfolding rowOf
   bytes-rowOf f zero = λ k h. absurd (not-suc-le-zero h)
   bytes-rowOf f (suc n) =
-      below-suc (λ k. bytesFrom w (rowOf c f (suc n)) (w * k) 0 ≡ c .enc (f k)) n
+      below-suc (λ k. bytesFrom w (rowOf c f (suc n)) (w * k) ≡ c .enc (f k)) n
       (λ k lt.
       bytesFrom-append-first w (rowOf c f n) (c .enc (f n)) (w * k) (omega (arith, length-rowOf f n, apart w lt))
       ∙ bytes-rowOf f n k lt)
@@ -131,7 +131,7 @@ module _ {A : Type 0} {w : ℕ} (c : Codec A w) where
 
   -- A cell not reached is as it was, and one passed is f of what it was.
   bytes-mapRow-past : (f : ℕ → A → A) (n : ℕ) (l : List ℕ) (k : ℕ) → n ≤ k
-      → bytesFrom w (mapRow c f n l) (w * k) 0 ≡ bytesFrom w l (w * k) 0
+      → bytesFrom w (mapRow c f n l) (w * k) ≡ bytesFrom w l (w * k)
   unfolding mapRow
   bytes-mapRow-past f zero l k h = refl
   bytes-mapRow-past f (suc n) l k h =
@@ -148,11 +148,11 @@ module _ {A : Type 0} {w : ℕ} (c : Codec A w) where
       ap (c .enc) (cellAt-mapRow-past f n l k h) ∙ x ∙ sym (bytes-mapRow-past f n l k h)
 
   bytes-mapRow : (f : ℕ → A → A) (n : ℕ) (l : List ℕ) → w * n ≤ length l → (k : ℕ) → k < n
-      → bytesFrom w (mapRow c f n l) (w * k) 0 ≡ c .enc (f k (cellAt c l k))
+      → bytesFrom w (mapRow c f n l) (w * k) ≡ c .enc (f k (cellAt c l k))
   unfolding mapRow
   bytes-mapRow f zero l h = λ k lt. absurd (not-suc-le-zero lt)
   bytes-mapRow f (suc n) l h =
-      below-suc (λ k. bytesFrom w (mapRow c f (suc n) l) (w * k) 0 ≡ c .enc (f k (cellAt c l k))) n
+      below-suc (λ k. bytesFrom w (mapRow c f (suc n) l) (w * k) ≡ c .enc (f k (cellAt c l k))) n
       (λ k lt.
       bytes-putCell-other (mapRow c f n l) n k _ (omega arith)
       ∙ bytes-mapRow f n l (omega (arith, mul-suc w n)) k lt)

@@ -21,11 +21,11 @@ only test f k a = cond (test k) (f k a) a
 module _ {A : Type 0} {w : ℕ} (c : Codec A w) where
   -- The value of cell k.
   unfoldable pub cellAt : List ℕ → ℕ → A
-  cellAt l k = c .dec (bytesFrom w l (w * k) 0)
+  cellAt l k = c .dec (bytesFrom w l (w * k))
 
   -- The row with a put in cell k.
   unfoldable pub putCell : List ℕ → ℕ → A → List ℕ
-  putCell l k a = putFrom l (w * k) 0 (c .enc a)
+  putCell l k a = putFrom l (w * k) (c .enc a)
 
   -- The row of n cells whose cell k is f k.
   unfoldable pub rowOf : (ℕ → A) → ℕ → List ℕ
@@ -43,4 +43,4 @@ module _ {A : Type 0} {w : ℕ} (c : Codec A w) where
 
   -- The bytes of cell k are those that its value is written in.
   abbrev pub Exact : List ℕ → ℕ → Type 0
-  Exact l k = c .enc (cellAt l k) ≡ bytesFrom w l (w * k) 0
+  Exact l k = c .enc (cellAt l k) ≡ bytesFrom w l (w * k)

@@ -19,7 +19,7 @@ pub record Stepped (z p : ℤ) (s : ℕ) : Type 0 where
   -- s less 2^15 is z + p lifted.
   pub moved : 2 ^ 15 ≤ s → z +ℤ p ≡ subℕ (s - 2 ^ 15) (2 ^ 28)
 
--- The premises are what lift_word (or lift_i32) and lift_i16 ensure.
+-- The premises are what lifting a reference number and a halfword ensures.
 module _ {z p : ℤ} (r q : ℕ)
     (reference : (z ≡ subℕ r (2 ^ 28)) × (r < 2 ^ 29)) (step : (p ≡ subℕ q (2 ^ 15)) × (q < 2 ^ 16)) where
   before : inRange z ≡ true

@@ -16,26 +16,14 @@ const LOWEST: i32 = -0x1000_0000;
 
 const LIMIT: i32 = 0x1000_0000;
 
-// The words of LOWEST and LIMIT.
+// The word of LOWEST.
 const LOWEST_WORD: u32 = 0xf000_0000;
-
-const LIMIT_WORD: u32 = 0x1000_0000;
-
-// The lowest number of 16 bits.
-const LOWEST_HALF: i32 = -0x8000;
 
 // Whether a draw or a step takes z as a reference number.
 pub fn in_range(z: i32) -> bool
     ensures { λ t. ⌜ t ≡ inRange z ⌝ }
 {
     (LOWEST <= z) & (z < LIMIT)
-}
-
-// Whether a draw or a step takes the signed number of a word as a reference number.
-pub fn word_in_range(w: u32) -> bool
-    ensures { λ t. ⌜ t ≡ inRange (signed32 w) ⌝ }
-{
-    (w < LIMIT_WORD) | (LOWEST_WORD <= w)
 }
 
 // The reference number z plus 2^28.
@@ -46,38 +34,11 @@ pub fn lift_i32(z: i32) -> u32
     (z - LOWEST) as u32
 }
 
-// The reference number of a word, plus 2^28.
-pub fn lift_word(w: u32) -> u32
-    requires { ⌜ inRange (signed32 w) ≡ true ⌝ }
-    ensures { λ r. ⌜ (signed32 w ≡ subℕ r (2 ^ 28)) × (r < 2 ^ 29) ⌝ }
-{
-    if w < LIMIT_WORD {
-        w + REFERENCE_BIAS
-    } else {
-        w - LOWEST_WORD
-    }
-}
-
-// The signed number z plus 2^15.
-pub fn lift_i16(z: i16) -> u32
-    ensures { λ q. ⌜ (z ≡ subℕ q (2 ^ 15)) × (q < 2 ^ 16) ⌝ }
-{
-    (z as i32 - LOWEST_HALF) as u32
-}
-
 // The signed number of a halfword, plus 2^15.
 pub fn lift_half(h: u16) -> u32
     ensures { λ q. ⌜ (signed16 h ≡ subℕ q (2 ^ 15)) × (q < 2 ^ 16) ⌝ }
 {
     (h as u32 + HALF_BIAS) % 0x1_0000
-}
-
-// The reference number that is r less 2^28.
-pub fn drop_i32(r: u32) -> i32
-    requires { ⌜ r < 2 ^ 29 ⌝ }
-    ensures { λ z. ⌜ z ≡ subℕ r (2 ^ 28) ⌝ }
-{
-    r as i32 + LOWEST
 }
 
 // The word of the reference number that is r less 2^28.

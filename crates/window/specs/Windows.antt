@@ -70,6 +70,14 @@ inRows top bottom row = inside displayHeight top bottom row
 abbrev pub permits : ℕ → ℕ → Bool
 permits flags n = bit n flags
 
+-- Whether flags permit objects (LCD I/O Window Feature).
+abbrev pub permitsObjects : ℕ → Bool
+permitsObjects flags = permits flags 4
+
+-- Whether flags permit effects (LCD I/O Window Feature).
+abbrev pub permitsEffects : ℕ → Bool
+permitsEffects flags = permits flags 5
+
 -- The flags that permit everything (LCD I/O Window Feature).
 abbrev pub everything : ℕ
 everything = 0x3f

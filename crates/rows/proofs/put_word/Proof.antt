@@ -3,9 +3,9 @@
 use native.Mathlib.Omega.{arith}
 use lib.ListN.{length-set}
 use borrow.Author.Needs.{needs}
-use Rattle.rows.specs.Bytes.{putFrom}
 use Rattle.rows.specs.Cells.{putCell}
 use Rattle.rows.specs.Words.{wordCells}
+use Rattle.rows.proofs.Bytes.{putAt, putFrom-at}
 use Rattle.rows.proofs.put_word.Statement.{statement}
 use Rattle.rows.proofs.put_word.Tie as tie
 
@@ -49,8 +49,8 @@ same-length : tie.Need-same-length
 same-length c = search needs
 
 returns : tie.Need-returns
-unfolding putCell putFrom wordCells
-returns c = search needs
+unfolding putCell putAt wordCells
+returns c = rw putFrom-at (search needs)
 
 pub put-word-spec : {M : Type 1} → statement M
 put-word-spec =

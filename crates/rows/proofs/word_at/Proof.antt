@@ -1,9 +1,9 @@
 -- rows::word_at meets its contract: four reads in ascending order are the codec's, by computation.
 -- Assumes nothing.
 use borrow.Author.Needs.{needs}
-use Rattle.rows.specs.Bytes.{bytesFrom}
 use Rattle.rows.specs.Cells.{cellAt}
 use Rattle.rows.specs.Words.{wordCells}
+use Rattle.rows.proofs.Bytes.{bytesAt, bytesFrom-at}
 use Rattle.rows.proofs.word_at.Statement.{statement}
 use Rattle.rows.proofs.word_at.Tie as tie
 
@@ -35,8 +35,8 @@ word-of-requires : tie.Need-word-of-requires
 word-of-requires c κs = search needs
 
 returns : tie.Need-returns
-unfolding cellAt bytesFrom wordCells
-returns c = search needs
+unfolding cellAt bytesAt wordCells
+returns c = rw bytesFrom-at (search needs)
 
 pub word-at-spec : {M : Type 1} → statement M
 word-at-spec =

@@ -1,0 +1,13 @@
+-- Coordinates as code has them, each larger by 0x1e0000, so that none is below 0 (01, "Backgrounds"). Only contracts that
+-- `background` builds on cite this file. Assumes nothing.
+use Prim.Native.Nat.{ℕ, _%_, _<_}
+use mathlib.Core.Path.{_≡_}
+use lib.IntN.{ℤ, subℕ}
+
+-- The coordinate that a number stands for.
+abbrev pub coordinate : ℕ → ℤ
+coordinate q = subℕ q 0x1e0000
+
+-- A side that 0x1e0000 is a multiple of: the remainder of a number is then that of its coordinate.
+abbrev pub Side : ℕ → Type 0
+Side side = (0 < side) × (0x1e0000 % side ≡ 0)
