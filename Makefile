@@ -19,11 +19,14 @@ run: host
 		echo "drawn by the proved library, reading H: $(FRAMES)/$$name.png"; \
 	done
 
-# `rt ci` stands last: its last line is the verdict, and nothing before it may fail.
+# `rt ci` stands last: its last line is the verdict, and is printed only if nothing before it failed and each must-fail
+# edit was refused at a fact.
 test: setup host-tests compare oracle-tests c-tests
 	@rt fmt --check
 	@tools/contracts
-	@rt ci
+	@tools/definitions
+	@tools/test-edits
+	@tools/ci
 
 setup:
 	@tools/setup
