@@ -56,8 +56,8 @@ compare: host
 oracle-tests: setup
 	@echo '== oracle: its source, its reach, its events'
 	@cargo test -q --release -p ashlarkin-oracle --test source --test reach --test events --test differences
-	@echo "== the list of crates/replay is the oracle's"
-	@cargo run -q --release -p ashlarkin-oracle --example replay_list | cmp - crates/replay/stdin
+	@echo "== the list of crates/run_replay is the oracle's"
+	@cargo run -q --release -p ashlarkin-oracle --example replay_list | cmp - crates/run_replay/stdin
 	@echo '== oracle and document 01, typed twice: release'
 	@cargo test -q --release -p ashlarkin-oracle --test second_opinion -- --cases 100000
 	@echo '== oracle and document 01, typed twice: fresh seed'

@@ -1,9 +1,9 @@
-//! Makes the list of calls and answers that the program of crates/replay runs through the proved routines. The answers
+//! Makes the list of calls and answers that the program of crates/run_replay runs through the proved routines. The answers
 //! are the oracle's; the calls are the generator's under a fixed seed, so the list comes out the same each time.
 //!
-//!     cargo run -q --release -p ashlarkin-oracle --example replay_list > crates/replay/stdin
+//!     cargo run -q --release -p ashlarkin-oracle --example replay_list > crates/run_replay/stdin
 //!
-//! The form of the list is described in crates/replay/src/main.rt.
+//! The form of the list is described in crates/run_replay/src/main.rt.
 
 use std::io::{Write, stdout};
 use std::sync::Arc;

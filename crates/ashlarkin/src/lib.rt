@@ -1,12 +1,12 @@
 // The routines that a host program in C or Rust calls: include/ashlarkin.h says the same in C. Lent buffers don't overlap.
-ghost use Rattle.judge.specs.Judge.{callOf};
+ghost use Rattle.gpu_judge.specs.Judge.{callOf};
 ghost use Rattle.gpu.specs.Draw.{Draws};
-ghost use Rattle.entries.specs.Reset.{Resets};
-ghost use Rattle.references.specs.Step.{StepsTo};
-ghost use Rattle.drawn.specs.Draw.{DrawsRecords};
-ghost use Rattle.records.specs.Step.{StepsRecords};
-use records::BgAffine;
-use records::ObjBufferEntry;
+ghost use Rattle.obj_entries.specs.Reset.{Resets};
+ghost use Rattle.gpu_step.specs.Step.{StepsTo};
+ghost use Rattle.gpu_draw_records.specs.Draw.{DrawsRecords};
+ghost use Rattle.gpu_records.specs.Step.{StepsRecords};
+use gpu_records::BgAffine;
+use gpu_records::ObjBufferEntry;
 
 // A line drawn: 0, or the number of the refusal, which changes nothing lent.
 #[no_mangle]
@@ -51,7 +51,7 @@ pub extern "C" fn ashlarkin_draw(
 pub extern "C" fn ashlarkin_reset(entries: &mut [u8]) -> u32
     ensures { λ n. ⌜ Resets (now (entries .entry)) n (now (entries .exit)) ⌝ }
 {
-    entries::reset(entries)
+    obj_entries::reset(entries)
 }
 
 // The four reference numbers stepped at a line's end: 0, or 2 for another length, or 6.
@@ -66,7 +66,7 @@ pub extern "C" fn ashlarkin_step(
     ensures { λ n.
         ⌜ StepsTo (record { pb2 = pb2; pd2 = pd2; pb3 = pb3; pd3 = pd3 }) (now (references .entry)) n (now (references .exit)) ⌝ }
 {
-    references::step(pb2, pd2, pb3, pd3, references)
+    gpu_step::step(pb2, pd2, pb3, pd3, references)
 }
 
 // Both backgrounds stepped at a line's end, each in place: 0, or 6 with both as they were.
@@ -74,7 +74,7 @@ pub extern "C" fn ashlarkin_step(
 pub extern "C" fn ashlarkin_step_records(bg2: &mut BgAffine, bg3: &mut BgAffine) -> u32
     ensures { λ n. ⌜ StepsRecords (now (bg2 .entry)) (now (bg3 .entry)) n (now (bg2 .exit)) (now (bg3 .exit)) ⌝ }
 {
-    let stepped = records::step_pair(*bg2, *bg3);
+    let stepped = gpu_records::step_pair(*bg2, *bg3);
     *bg2 = stepped.bg2;
     *bg3 = stepped.bg3;
     stepped.number
@@ -102,12 +102,12 @@ pub extern "C" fn ashlarkin_draw_records(
         (now (vram .entry)) (now (palette .entry)) (now (oam .entry)) (now (registers .entry)))
         (now (entries .entry)) (now (output .entry)) n (now (entries .exit)) (now (output .exit)) ⌝ }
 {
-    let refusal = drawn::judge_row(reading, entries.len());
+    let refusal = gpu_draw_records::judge_row(reading, entries.len());
     if refusal != 0 {
         return refusal;
     }
-    let row = records::load_row(entries);
-    let drawn = drawn::draw_row(
+    let row = gpu_records::load_row(entries);
+    let drawn = gpu_draw_records::draw_row(
         row,
         reading,
         line,
@@ -124,6 +124,6 @@ pub extern "C" fn ashlarkin_draw_records(
     if !drawn.writes {
         return drawn.number;
     }
-    records::store_row(entries, drawn.row);
+    gpu_records::store_row(entries, drawn.row);
     drawn.number
 }

@@ -15,18 +15,18 @@ use Rattle.regs.specs.Registers.{dispcnt, bldy}
 use Rattle.regs.specs.Display.{mode, forceBlank, enableObj}
 use Rattle.regs.specs.Reading.{readingOf, counted}
 use Rattle.rows.proofs.Cells.{length-rowOf}
-use Rattle.entries.specs.Entry.{entryCells, shapedRow}
-use Rattle.sprites.specs.Sprite.{source}
+use Rattle.obj_entries.specs.Entry.{entryCells, shapedRow}
+use Rattle.obj_sprites.specs.Sprite.{source}
 use Rattle.obj.specs.Put.{putSprites}
 use Rattle.obj.proofs.Shapes.{shapedRow-after}
-use Rattle.references.specs.References.{inRanges}
-use Rattle.judge.specs.Judge.{Call, callOf, haveLengths, verdict, numberOf}
+use Rattle.gpu_step.specs.References.{inRanges}
+use Rattle.gpu_judge.specs.Judge.{Call, callOf, haveLengths, verdict, numberOf}
 use Rattle.gpu.specs.Line.{entriesAfter, lineAfter, blankLine}
-use Rattle.judge.specs.Rest.{lineVerdict}
+use Rattle.gpu_judge.specs.Rest.{lineVerdict}
 use Rattle.gpu.specs.Ready.{Ready}
 use Rattle.gpu.specs.Draw.{given, draw, Draws}
-use Rattle.judge.specs.declared.Verdict.{Verdict}
-use Rattle.judge.specs.declared.Verdict.the-variants.{
+use Rattle.gpu_judge.specs.declared.Verdict.{Verdict}
+use Rattle.gpu_judge.specs.declared.Verdict.the-variants.{
   BadReading,
   BadLength,
   BadLine,
@@ -37,8 +37,8 @@ use Rattle.judge.specs.declared.Verdict.the-variants.{
   Blank,
   Accepted,
 }
-use Rattle.judge.proofs.Verdicts.{lengths-are, verdict-rest}
-use Rattle.judge.proofs.Verdict.{the-type}
+use Rattle.gpu_judge.proofs.Verdicts.{lengths-are, verdict-rest}
+use Rattle.gpu_judge.proofs.Verdict.{the-type}
 
 -- ---- what a draw gives
 

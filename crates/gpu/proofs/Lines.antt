@@ -15,18 +15,18 @@ use Rattle.regs.specs.Registers.{dispcnt}
 use Rattle.regs.specs.Display.{enableBg, enableObj}
 use Rattle.regs.specs.Reading.{readingOf}
 use Rattle.regs.specs.declared.reading.Reading.{Reading}
-use Rattle.references.specs.References.{References}
-use Rattle.background.specs.Background.{backgroundColor}
+use Rattle.gpu_step.specs.References.{References}
+use Rattle.bg.specs.Background.{backgroundColor}
 use Rattle.memory.specs.Palette.{backdrop}
-use Rattle.entries.specs.Entry.{entryCells}
-use Rattle.sprites.specs.Sprite.{source}
+use Rattle.obj_entries.specs.Entry.{entryCells}
+use Rattle.obj_sprites.specs.Sprite.{source}
 use Rattle.obj.specs.Put.{putSprites}
-use Rattle.sorting.specs.Ordered.{keep, stands, standing, ordered}
-use Rattle.layers.specs.Layers.{Layer, background, backgrounds}
-use Rattle.layers.specs.Places.{lineColor}
+use Rattle.sfx_sorting.specs.Ordered.{keep, stands, standing, ordered}
+use Rattle.sfx_layers.specs.Layers.{Layer, background, backgrounds}
+use Rattle.sfx_layers.specs.Places.{lineColor}
 use Rattle.sfx.specs.Lines.{bgLine}
 use Rattle.sfx.specs.Pixel.{pixel}
-use Rattle.judge.specs.Judge.{Call}
+use Rattle.gpu_judge.specs.Judge.{Call}
 use Rattle.gpu.specs.Line.{entriesAfter, colorOf, pixelAt, lineAfter}
 use Rattle.gpu.specs.Ready.{colorIfOn}
 

@@ -3,10 +3,10 @@
 use Prim.Native.Nat.{ℕ}
 use mathlib.Core.Path.{_≡_}
 use mathlib.Core.List.{List}
-use Rattle.judge.specs.Judge.{Call, verdict, numberOf}
+use Rattle.gpu_judge.specs.Judge.{Call, verdict, numberOf}
 use Rattle.gpu.specs.Line.{entriesAfter, lineAfter, blankLine}
-use Rattle.judge.specs.declared.Verdict.{Verdict}
-use Rattle.judge.specs.declared.Verdict.the-variants.{
+use Rattle.gpu_judge.specs.declared.Verdict.{Verdict}
+use Rattle.gpu_judge.specs.declared.Verdict.the-variants.{
   BadReading,
   BadLength,
   BadLine,

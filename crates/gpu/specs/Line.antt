@@ -10,13 +10,13 @@ use Rattle.memory.specs.Palette.{backdrop}
 use Rattle.regs.specs.Registers.{dispcnt}
 use Rattle.regs.specs.Display.{enableObj}
 use Rattle.regs.specs.Reading.{readingOf}
-use Rattle.background.specs.Background.{backgroundColor}
-use Rattle.sprites.specs.Sprite.{source}
-use Rattle.entries.specs.Entry.{entryCells}
+use Rattle.bg.specs.Background.{backgroundColor}
+use Rattle.obj_sprites.specs.Sprite.{source}
+use Rattle.obj_entries.specs.Entry.{entryCells}
 use Rattle.obj.specs.Put.{putSprites}
-use Rattle.layers.specs.Layers.{backgrounds}
+use Rattle.sfx_layers.specs.Layers.{backgrounds}
 use Rattle.sfx.specs.Pixel.{pixel}
-use Rattle.judge.specs.Judge.{Call}
+use Rattle.gpu_judge.specs.Judge.{Call}
 
 -- With sprites on, the entries afterwards are what the sprites make of them; else they stay.
 unfoldable pub entriesAfter : Call → List ℕ → List ℕ

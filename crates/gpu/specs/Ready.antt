@@ -8,11 +8,11 @@ use Rattle.rgb15.specs.Colour.{transparent}
 use Rattle.regs.specs.Registers.{dispcnt, bldy}
 use Rattle.regs.specs.Display.{mode}
 use Rattle.regs.specs.Reading.{readingOf, counted}
-use Rattle.references.specs.References.{References, inRanges}
-use Rattle.background.specs.Background.{backgroundColor}
-use Rattle.entries.specs.Entry.{shapedRow}
-use Rattle.judge.specs.Judge.{Call}
-use Rattle.judge.specs.Lengths.{Lengths}
+use Rattle.gpu_step.specs.References.{References, inRanges}
+use Rattle.bg.specs.Background.{backgroundColor}
+use Rattle.obj_entries.specs.Entry.{shapedRow}
+use Rattle.gpu_judge.specs.Judge.{Call}
+use Rattle.gpu_judge.specs.Lengths.{Lengths}
 
 -- What the tests of a draw leave.
 pub record Ready (c : Call) (entries output : List ℕ) : Type 0 where

@@ -8,7 +8,7 @@ use mathlib.Core.Logic.{_⊎_, inl, inr, ⊎-elim}
 use lib.Dec.{eqb, ltb}
 use borrow.Author.Tests.{ltb-true, ltb-false, lt-ltb, eqb-true, eq-eqb}
 use Rattle.signed.proofs.Order.{and-both}
-use Rattle.entries.proofs.Shapes.{or-split}
+use Rattle.obj_entries.proofs.Shapes.{or-split}
 use Rattle.obj.specs.Order.{Pixel, isBefore, Wins}
 
 -- Pixel p was put earlier than sprite n of draw number i is.

@@ -7,7 +7,7 @@ use lib.Dec.{eqb}
 use mir.Val.{boolByte}
 use Rattle.bits.specs.Bits.{bit, putBit}
 use Rattle.rgb15.specs.Colour.{rgb}
-use Rattle.entries.specs.declared.Entry.{Entry}
+use Rattle.obj_entries.specs.declared.Entry.{Entry}
 use Rattle.obj.specs.Put.{shownBy}
 
 -- The semi-transparent mark.

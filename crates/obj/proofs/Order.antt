@@ -11,13 +11,13 @@ use mathlib.Core.Logic.{_⊎_, inl, inr, ⊎-elim}
 use lib.Dec.{leb}
 use borrow.Author.Tests.{leb-true, leb-false}
 use Rattle.rgb15.specs.Colour.{isTransparent}
-use Rattle.sprites.specs.Attrs.{sprite}
-use Rattle.sprites.specs.Sprite.{source, spriteColor, isVisible, isSemi}
+use Rattle.obj_sprites.specs.Attrs.{sprite}
+use Rattle.obj_sprites.specs.Sprite.{source, spriteColor, isVisible, isSemi}
 use Rattle.obj.specs.Put.{passedOver, shownBy, windowed, written, putPixel, spriteStep, entryUpTo}
 use Rattle.obj.specs.Order.{Draw, Pixel, isOpaque, pixelOf, pixelsUpTo, isBefore, Wins, Shows, Holds, none, some}
-use Rattle.sprites.specs.declared.attrs.ObjMode.{ObjMode}
-use Rattle.entries.specs.declared.Entry.{Entry}
-use Rattle.sprites.proofs.Decode.{priority-bound}
+use Rattle.obj_sprites.specs.declared.attrs.ObjMode.{ObjMode}
+use Rattle.obj_entries.specs.declared.Entry.{Entry}
+use Rattle.obj_sprites.proofs.Decode.{priority-bound}
 use Rattle.obj.proofs.Before.{Earlier, isBefore-priority, isBefore-earlier, isBefore-le}
 use Rattle.obj.proofs.Marks.{semi-put-same, semi-put-other}
 

@@ -16,11 +16,11 @@ use Rattle.rows.specs.Cells.{cellAt, putCell, only}
 use Rattle.rows.proofs.Below.{between-inside, between-before, between-past}
 use Rattle.rows.proofs.Cells.{mapRow-cong, mapRow-ext, mapRow-same}
 use Rattle.rows.proofs.Passed.{PassedPart, passed-from, passed-inside}
-use Rattle.entries.specs.Entry.{entryCells}
-use Rattle.entries.specs.declared.Entry.{Entry}
-use Rattle.entries.proofs.Entries.{exact-entryCells}
-use Rattle.sprites.specs.declared.attrs.ObjAttrs.{ObjAttrs}
-use Rattle.sprites.specs.declared.attrs.ObjMode.{ObjMode}
+use Rattle.obj_entries.specs.Entry.{entryCells}
+use Rattle.obj_entries.specs.declared.Entry.{Entry}
+use Rattle.obj_entries.proofs.Entries.{exact-entryCells}
+use Rattle.obj_sprites.specs.declared.attrs.ObjAttrs.{ObjAttrs}
+use Rattle.obj_sprites.specs.declared.attrs.ObjMode.{ObjMode}
 use Rattle.obj.specs.Put.{passedOver, shownBy, windowed, written, putPixel}
 use Rattle.obj.specs.Steps.{putColumn, putRow, putBox, AllPassedOver}
 

@@ -9,14 +9,14 @@ use Rattle.rgb15.specs.Colour.{isTransparent}
 use Rattle.rows.proofs.Below.{allBelow-at, allBelow-ext}
 use Rattle.rows.proofs.Cells.{cellAt-rowOf}
 use Rattle.regs.specs.declared.reading.Reading.{Reading}
-use Rattle.entries.specs.Entry.{entryCells, wellShaped, shapedRow}
-use Rattle.entries.specs.declared.Entry.{Entry}
-use Rattle.entries.proofs.Shapes.{Shape, shape-of, wellShaped-shown, wellShaped-blank}
-use Rattle.sprites.specs.Attrs.{sprite}
-use Rattle.sprites.specs.Sprite.{Source, spriteColor}
-use Rattle.sprites.specs.declared.attrs.ObjMode.{ObjMode}
-use Rattle.sprites.proofs.Clean.{Clean, clean-sprite}
-use Rattle.sprites.proofs.Decode.{priority-bound}
+use Rattle.obj_entries.specs.Entry.{entryCells, wellShaped, shapedRow}
+use Rattle.obj_entries.specs.declared.Entry.{Entry}
+use Rattle.obj_entries.proofs.Shapes.{Shape, shape-of, wellShaped-shown, wellShaped-blank}
+use Rattle.obj_sprites.specs.Attrs.{sprite}
+use Rattle.obj_sprites.specs.Sprite.{Source, spriteColor}
+use Rattle.obj_sprites.specs.declared.attrs.ObjMode.{ObjMode}
+use Rattle.obj_sprites.proofs.Clean.{Clean, clean-sprite}
+use Rattle.obj_sprites.proofs.Decode.{priority-bound}
 use Rattle.obj.specs.Put.{passedOver, shownBy, windowed, written, putPixel, spriteStep, entryUpTo, putSprites}
 use Rattle.obj.proofs.Marks.{semi-put-other, semi-put-bound}
 

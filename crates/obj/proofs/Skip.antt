@@ -9,11 +9,11 @@ use borrow.Author.Tests.{ltb-true, ltb-false, le-leb}
 use denote.Enum.Declared.{tagOf}
 use types.Run.{OneOf, miss}
 use Rattle.rows.specs.Cells.{cellAt}
-use Rattle.entries.specs.Entry.{entryCells}
-use Rattle.entries.specs.declared.Entry.{Entry}
-use Rattle.sprites.specs.declared.attrs.ObjAttrs.{ObjAttrs}
-use Rattle.sprites.specs.declared.attrs.ObjMode.{ObjMode}
-use Rattle.sprites.proofs.attrs.ObjMode.{the-type}
+use Rattle.obj_entries.specs.Entry.{entryCells}
+use Rattle.obj_entries.specs.declared.Entry.{Entry}
+use Rattle.obj_sprites.specs.declared.attrs.ObjAttrs.{ObjAttrs}
+use Rattle.obj_sprites.specs.declared.attrs.ObjMode.{ObjMode}
+use Rattle.obj_sprites.proofs.attrs.ObjMode.{the-type}
 use Rattle.obj.specs.Put.{passedOver}
 use Rattle.obj.specs.Steps.{Closed, AllPassedOver}
 

@@ -20,19 +20,19 @@ use Rattle.regs.specs.Display.{DisplayControlOf, objMapping}
 use Rattle.regs.specs.declared.DisplayControl.{DisplayControl}
 use Rattle.regs.specs.declared.ObjMapping.{ObjMapping}
 use Rattle.regs.specs.declared.reading.Reading.{Reading}
-use Rattle.sprites.specs.Oam.{matrix}
-use Rattle.sprites.specs.Attrs.{sprite}
-use Rattle.sprites.specs.Color.{affineColor}
-use Rattle.sprites.specs.Tiles.{tilesStart}
-use Rattle.sprites.specs.Sprite.{Source, source, drawn, typedColor, spriteColor}
-use Rattle.entries.specs.Entry.{entryCells}
+use Rattle.obj_sprites.specs.Oam.{matrix}
+use Rattle.obj_sprites.specs.Attrs.{sprite}
+use Rattle.obj_sprites.specs.Color.{affineColor}
+use Rattle.obj_sprites.specs.Tiles.{tilesStart}
+use Rattle.obj_sprites.specs.Sprite.{Source, source, drawn, typedColor, spriteColor}
+use Rattle.obj_entries.specs.Entry.{entryCells}
 use Rattle.obj.specs.Put.{putPixel, spriteStep, entryUpTo, putSprites}
 use Rattle.obj.specs.Steps.{putRow, NoneDrawn, NextDrawn}
-use Rattle.sprites.specs.declared.attrs.ObjAttrs.{ObjAttrs}
-use Rattle.sprites.specs.declared.attrs.ObjType.{ObjType}
-use Rattle.entries.specs.declared.Entry.{Entry}
-use Rattle.sprites.proofs.attrs.ObjType.{the-type}
-use Rattle.entries.proofs.Entries.{exact-entryCells}
+use Rattle.obj_sprites.specs.declared.attrs.ObjAttrs.{ObjAttrs}
+use Rattle.obj_sprites.specs.declared.attrs.ObjType.{ObjType}
+use Rattle.obj_entries.specs.declared.Entry.{Entry}
+use Rattle.obj_sprites.proofs.attrs.ObjType.{the-type}
+use Rattle.obj_entries.proofs.Entries.{exact-entryCells}
 use Rattle.obj.proofs.Pixels.{putPixel-transparent}
 
 -- The colours of a sprite that was read, by its type.

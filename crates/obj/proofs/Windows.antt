@@ -5,13 +5,13 @@ use mathlib.Core.Path.{_≡_, refl, sym, ap, _∙_}
 use mathlib.Core.Bool.{Bool, true, false, not, cond, _&&_, _||_, or-true, or-false, or-assoc}
 use lib.Dec.{leb}
 use Rattle.rgb15.specs.Colour.{isTransparent}
-use Rattle.sprites.specs.Attrs.{sprite}
-use Rattle.sprites.specs.Sprite.{source, isWindow}
-use Rattle.entries.specs.Entry.{windowMark}
+use Rattle.obj_sprites.specs.Attrs.{sprite}
+use Rattle.obj_sprites.specs.Sprite.{source, isWindow}
+use Rattle.obj_entries.specs.Entry.{windowMark}
 use Rattle.obj.specs.Put.{passedOver, shownBy, windowed, written, putPixel, spriteStep, entryUpTo}
 use Rattle.obj.specs.Order.{Draw, isOpaque, windowUpTo}
-use Rattle.sprites.specs.declared.attrs.ObjMode.{ObjMode}
-use Rattle.entries.specs.declared.Entry.{Entry}
+use Rattle.obj_sprites.specs.declared.attrs.ObjMode.{ObjMode}
+use Rattle.obj_entries.specs.declared.Entry.{Entry}
 use Rattle.obj.proofs.Marks.{window-put-same, window-put-other}
 
 -- A pixel that is shown leaves the window mark.

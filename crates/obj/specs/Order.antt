@@ -9,10 +9,10 @@ use lib.Dec.{eqb, ltb}
 use Rattle.rgb15.specs.Colour.{transparent, isTransparent}
 use Rattle.memory.specs.Memory.{Memory}
 use Rattle.regs.specs.declared.reading.Reading.{Reading}
-use Rattle.sprites.specs.Attrs.{sprite}
-use Rattle.sprites.specs.Sprite.{source, isVisible, isSemi, isWindow, spriteColor}
-use Rattle.entries.specs.Entry.{semiMark}
-use Rattle.entries.specs.declared.Entry.{Entry}
+use Rattle.obj_sprites.specs.Attrs.{sprite}
+use Rattle.obj_sprites.specs.Sprite.{source, isVisible, isSemi, isWindow, spriteColor}
+use Rattle.obj_entries.specs.Entry.{semiMark}
+use Rattle.obj_entries.specs.declared.Entry.{Entry}
 
 -- A draw, as far as its sprites go.
 pub record Draw : Type 0 where

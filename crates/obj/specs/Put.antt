@@ -8,12 +8,12 @@ use Rattle.rgb15.specs.Colour.{rgb, isTransparent}
 use Rattle.rows.specs.Cells.{cellAt, rowOf}
 use Rattle.regs.specs.declared.reading.Reading.{Reading}
 use Rattle.memory.specs.Sizes.{displayWidth}
-use Rattle.sprites.specs.Oam.{objCount}
-use Rattle.sprites.specs.Attrs.{sprite}
-use Rattle.sprites.specs.Sprite.{Source, spriteColor}
-use Rattle.entries.specs.Entry.{entryCells}
-use Rattle.sprites.specs.declared.attrs.ObjMode.{ObjMode}
-use Rattle.entries.specs.declared.Entry.{Entry}
+use Rattle.obj_sprites.specs.Oam.{objCount}
+use Rattle.obj_sprites.specs.Attrs.{sprite}
+use Rattle.obj_sprites.specs.Sprite.{Source, spriteColor}
+use Rattle.obj_entries.specs.Entry.{entryCells}
+use Rattle.obj_sprites.specs.declared.attrs.ObjMode.{ObjMode}
+use Rattle.obj_entries.specs.declared.Entry.{Entry}
 
 -- A non-window sprite is passed over where the entry's priority is less than or equal to its own; a window sprite tests
 -- no priority.

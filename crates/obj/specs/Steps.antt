@@ -11,11 +11,11 @@ use Rattle.rgb15.specs.declared.Rgb15.{Rgb15}
 use Rattle.rows.specs.Below.{between}
 use Rattle.rows.specs.Cells.{cellAt, putCell, only, mapRow}
 use Rattle.regs.specs.declared.reading.Reading.{Reading}
-use Rattle.sprites.specs.Attrs.{sprite}
-use Rattle.sprites.specs.Sprite.{drawn}
-use Rattle.entries.specs.Entry.{entryCells}
-use Rattle.sprites.specs.declared.attrs.ObjAttrs.{ObjAttrs}
-use Rattle.sprites.specs.declared.attrs.ObjMode.{ObjMode}
+use Rattle.obj_sprites.specs.Attrs.{sprite}
+use Rattle.obj_sprites.specs.Sprite.{drawn}
+use Rattle.obj_entries.specs.Entry.{entryCells}
+use Rattle.obj_sprites.specs.declared.attrs.ObjAttrs.{ObjAttrs}
+use Rattle.obj_sprites.specs.declared.attrs.ObjMode.{ObjMode}
 use Rattle.obj.specs.Put.{passedOver, putPixel}
 
 -- The row with a pixel put in the entry of a column.

@@ -14,21 +14,21 @@ use Rattle.memory.specs.Palette.{backdrop}
 use Rattle.regs.specs.Registers.{dispcnt}
 use Rattle.regs.specs.Display.{enableObj}
 use Rattle.regs.specs.declared.reading.Reading.{Reading}
-use Rattle.entries.specs.Entry.{entryCells, semiMark}
-use Rattle.entries.specs.declared.Entry.{Entry}
-use Rattle.windows.specs.Region.{permitted}
-use Rattle.windows.specs.Row.{regionAt}
-use Rattle.windows.specs.declared.WindowType.{WindowType}
-use Rattle.sorting.specs.Ordered.{ordered}
-use Rattle.sorting.specs.Places.{places}
-use Rattle.layers.specs.Layers.{Pair, backgrounds, layers}
-use Rattle.layers.specs.Places.{lineColor, placedLayers}
-use Rattle.layers.specs.Words.{objectTag, regionWord, columnRegion, LineLayersOf}
-use Rattle.layers.specs.declared.layer.LineLayers.{LineLayers}
-use Rattle.layers.proofs.Columns.{placedColors, column-pair, region-bits}
-use Rattle.effects.specs.Words.{WeightsOf}
-use Rattle.effects.specs.declared.Weights.{Weights}
-use Rattle.effects.proofs.Colors.{pair-color}
+use Rattle.obj_entries.specs.Entry.{entryCells, semiMark}
+use Rattle.obj_entries.specs.declared.Entry.{Entry}
+use Rattle.sfx_regions.specs.Region.{permitted}
+use Rattle.sfx_regions.specs.Row.{regionAt}
+use Rattle.sfx_regions.specs.declared.WindowType.{WindowType}
+use Rattle.sfx_sorting.specs.Ordered.{ordered}
+use Rattle.sfx_sorting.specs.Places.{places}
+use Rattle.sfx_layers.specs.Layers.{Pair, backgrounds, layers}
+use Rattle.sfx_layers.specs.Places.{lineColor, placedLayers}
+use Rattle.sfx_layers.specs.Words.{objectTag, regionWord, columnRegion, LineLayersOf}
+use Rattle.sfx_layers.specs.declared.layer.LineLayers.{LineLayers}
+use Rattle.sfx_layers.proofs.Columns.{placedColors, column-pair, region-bits}
+use Rattle.sfx_effects.specs.Words.{WeightsOf}
+use Rattle.sfx_effects.specs.declared.Weights.{Weights}
+use Rattle.sfx_effects.proofs.Colors.{pair-color}
 use Rattle.sfx.specs.Pixel.{caseIn, caseOf, caseColor, pixel}
 use Rattle.sfx.specs.Words.{columnColor, atColumn}
 use Rattle.sfx.proofs.Lines.{placedLayers-lines}

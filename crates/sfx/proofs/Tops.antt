@@ -14,12 +14,12 @@ use Rattle.rows.specs.Below.{allBelow, tally}
 use Rattle.rows.specs.Tab.{tab}
 use Rattle.rows.proofs.Below.{allBelow-at, allBelow-tally}
 use Rattle.rows.proofs.Tab.{tab-cong}
-use Rattle.layers.specs.Places.{lineColor}
-use Rattle.layers.specs.Words.{Unmarked}
-use Rattle.layers.specs.declared.layer.LineLayers.{LineLayers}
-use Rattle.layers.proofs.Marks.{top-plain}
-use Rattle.effects.specs.declared.Weights.{Weights}
-use Rattle.effects.proofs.Colors.{pairColor-top}
+use Rattle.sfx_layers.specs.Places.{lineColor}
+use Rattle.sfx_layers.specs.Words.{Unmarked}
+use Rattle.sfx_layers.specs.declared.layer.LineLayers.{LineLayers}
+use Rattle.sfx_layers.proofs.Marks.{top-plain}
+use Rattle.sfx_effects.specs.declared.Weights.{Weights}
+use Rattle.sfx_effects.proofs.Colors.{pairColor-top}
 use Rattle.sfx.specs.Words.{columnColor, topColor, atColumn}
 
 -- ---- a column

@@ -4,12 +4,12 @@ use Prim.Native.Nat.{ℕ}
 use mathlib.Core.List.{List}
 use Rattle.rgb15.specs.Colour.{toRgb24}
 use Rattle.regs.specs.declared.reading.Reading.{Reading}
-use Rattle.entries.specs.Entry.{semiMark, windowMark}
-use Rattle.entries.specs.declared.Entry.{Entry}
-use Rattle.windows.specs.Region.{region, permitted}
-use Rattle.windows.specs.declared.WindowType.{WindowType}
-use Rattle.layers.specs.Layers.{Layer, Pair, layers}
-use Rattle.effects.specs.Effects.{Effect, effect, effectColor}
+use Rattle.obj_entries.specs.Entry.{semiMark, windowMark}
+use Rattle.obj_entries.specs.declared.Entry.{Entry}
+use Rattle.sfx_regions.specs.Region.{region, permitted}
+use Rattle.sfx_regions.specs.declared.WindowType.{WindowType}
+use Rattle.sfx_layers.specs.Layers.{Layer, Pair, layers}
+use Rattle.sfx_effects.specs.Effects.{Effect, effect, effectColor}
 
 -- The case of a column: its region, its top and bottom layer, and the effect.
 pub record Case : Type 0 where

@@ -6,10 +6,10 @@ use mathlib.Core.List.{List}
 use mathlib.Core.Logic.{_≢_}
 use Rattle.regs.specs.Registers.{dispcnt}
 use Rattle.regs.specs.Display.{forceBlank}
-use Rattle.references.specs.Step.{Answer}
+use Rattle.gpu_step.specs.Step.{Answer}
 use Rattle.gpu.specs.Draw.{Drawing}
-use Rattle.records.specs.declared.affine.PairStep.{PairStep}
-use Rattle.drawn.specs.Draw.{RecordDrawing}
+use Rattle.gpu_records.specs.declared.affine.PairStep.{PairStep}
+use Rattle.gpu_draw_records.specs.Draw.{RecordDrawing}
 use Rattle.thm_refusals.specs.Table.{Row}
 use Rattle.thm_refusals.specs.Demand1.{Judges, Blanks, Demand1, bytesTable, recordsTable, resetTable, stepTable, pairTable}
 use Rattle.thm_refusals.proofs.Tables.{firstOf, rises, judged-first}

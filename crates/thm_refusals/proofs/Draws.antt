@@ -9,9 +9,9 @@ use lib.Dec.{leb, ltb}
 use Rattle.memory.specs.Sizes.{displayHeight}
 use Rattle.regs.specs.Registers.{dispcnt}
 use Rattle.regs.specs.Display.{forceBlank}
-use Rattle.judge.specs.Judge.{Call, blankOff, haveLengths, verdict, numberOf}
-use Rattle.judge.specs.declared.Verdict.{Verdict}
-use Rattle.judge.specs.declared.Verdict.the-variants.{
+use Rattle.gpu_judge.specs.Judge.{Call, blankOff, haveLengths, verdict, numberOf}
+use Rattle.gpu_judge.specs.declared.Verdict.{Verdict}
+use Rattle.gpu_judge.specs.declared.Verdict.the-variants.{
   BadReading,
   BadLength,
   BadLine,

@@ -11,17 +11,17 @@ use borrow.Author.Tests.{eqb-true, eqb-false, eq-eqb, ne-eqb}
 use Rattle.rows.proofs.Below.{allBelow-cong}
 use Rattle.rows.proofs.Cells.{cellAt-rowOf}
 use Rattle.memory.specs.Memory.{Memory}
-use Rattle.entries.specs.Entry.{entryCells, wellShaped, shapedRow}
+use Rattle.obj_entries.specs.Entry.{entryCells, wellShaped, shapedRow}
 use Rattle.regs.specs.Registers.{dispcnt}
 use Rattle.regs.specs.Display.{forceBlank}
-use Rattle.judge.specs.Judge.{Call, haveLengths}
-use Rattle.judge.proofs.Verdicts.{lengths-are}
+use Rattle.gpu_judge.specs.Judge.{Call, haveLengths}
+use Rattle.gpu_judge.proofs.Verdicts.{lengths-are}
 use Rattle.gpu.specs.Line.{blankLine}
 use Rattle.gpu.specs.Draw.{draw}
-use Rattle.records.specs.Entries.{rowBytes}
-use Rattle.records.specs.declared.entry.ObjBufferEntry.{ObjBufferEntry}
-use Rattle.records.proofs.Rows.{entryAt, length-rowBytes, rowBytes-is}
-use Rattle.drawn.specs.Draw.{writes, drawRecords}
+use Rattle.gpu_records.specs.Entries.{rowBytes}
+use Rattle.gpu_records.specs.declared.entry.ObjBufferEntry.{ObjBufferEntry}
+use Rattle.gpu_records.proofs.Rows.{entryAt, length-rowBytes, rowBytes-is}
+use Rattle.gpu_draw_records.specs.Draw.{writes, drawRecords}
 use Rattle.thm_refusals.specs.Table.{NoneOf}
 use Rattle.thm_refusals.specs.Demand1.{drawTable, bytesTable, recordLengths, shapedRecords, recordsTable}
 use Rattle.thm_refusals.proofs.Tables.{firstOf}

@@ -7,14 +7,14 @@ use lib.Dec.{eqb}
 use lib.IntN.{ℤ}
 use lib.ListN.{length}
 use Prim.Native.Nat.{ℕ}
-use Rattle.references.specs.References.{inRanges}
-use Rattle.references.specs.Step.{Steps, Answer, sums, stepped, stepNumber, referencesAfter, referencesSize, referencesIn}
-use Rattle.references.specs.Step.{bytesAfter, step}
-use Rattle.references.specs.declared.Stepped.{Stepped}
-use Rattle.entries.specs.Entry.{entriesSize, resetRow}
-use Rattle.entries.specs.Reset.{reset}
-use Rattle.records.specs.Step.{stepsOf, referencesOf, movedTo, stepRecords}
-use Rattle.records.specs.declared.affine.BgAffine.{BgAffine}
+use Rattle.gpu_step.specs.References.{inRanges}
+use Rattle.gpu_step.specs.Step.{Steps, Answer, sums, stepped, stepNumber, referencesAfter, referencesSize, referencesIn}
+use Rattle.gpu_step.specs.Step.{bytesAfter, step}
+use Rattle.gpu_step.specs.declared.Stepped.{Stepped}
+use Rattle.obj_entries.specs.Entry.{entriesSize, resetRow}
+use Rattle.obj_entries.specs.Reset.{reset}
+use Rattle.gpu_records.specs.Step.{stepsOf, referencesOf, movedTo, stepRecords}
+use Rattle.gpu_records.specs.declared.affine.BgAffine.{BgAffine}
 use Rattle.thm_refusals.specs.Table.{Row, row}
 use Rattle.thm_refusals.specs.Demand1.{resetTable, stepTable, pairTable}
 use Rattle.thm_refusals.proofs.Tables.{firstOf}

@@ -14,18 +14,18 @@ use Rattle.memory.specs.Memory.{Memory}
 use Rattle.memory.specs.Sizes.{videoRamSize, paletteRamSize, oamSize, registersSize, displayWidth, displayHeight, outputSize}
 use Rattle.regs.specs.Registers.{dispcnt, bldy}
 use Rattle.regs.specs.Display.{mode, forceBlank}
-use Rattle.references.specs.References.{References, inRanges}
-use Rattle.references.specs.Step.{Steps, sums, referencesSize, referencesIn, StepsTo}
-use Rattle.entries.specs.Entry.{entriesSize, wellShaped, shapedRow}
-use Rattle.entries.specs.Reset.{Resets}
-use Rattle.judge.specs.Judge.{Call, blankOff, haveLengths}
+use Rattle.gpu_step.specs.References.{References, inRanges}
+use Rattle.gpu_step.specs.Step.{Steps, sums, referencesSize, referencesIn, StepsTo}
+use Rattle.obj_entries.specs.Entry.{entriesSize, wellShaped, shapedRow}
+use Rattle.obj_entries.specs.Reset.{Resets}
+use Rattle.gpu_judge.specs.Judge.{Call, blankOff, haveLengths}
 use Rattle.gpu.specs.Line.{blankLine}
 use Rattle.gpu.specs.Draw.{Draws}
-use Rattle.records.specs.Step.{stepsOf, referencesOf, StepsRecords}
-use Rattle.records.specs.Entries.{entryOf, resetRecord}
-use Rattle.records.specs.declared.affine.BgAffine.{BgAffine}
-use Rattle.records.specs.declared.entry.ObjBufferEntry.{ObjBufferEntry}
-use Rattle.drawn.specs.Draw.{DrawsRecords}
+use Rattle.gpu_records.specs.Step.{stepsOf, referencesOf, StepsRecords}
+use Rattle.gpu_records.specs.Entries.{entryOf, resetRecord}
+use Rattle.gpu_records.specs.declared.affine.BgAffine.{BgAffine}
+use Rattle.gpu_records.specs.declared.entry.ObjBufferEntry.{ObjBufferEntry}
+use Rattle.gpu_draw_records.specs.Draw.{DrawsRecords}
 use Rattle.thm_refusals.specs.Table.{Row, row, NoneOf, Judged}
 
 -- ---- the tables

@@ -58,35 +58,35 @@ use denote.Triple.Walked.{says, Stay, Stays, gave-slice, stay-none, stay-none-sl
 use denote.Triple.Walked.{Goes, goes-none-slice, goes-gave-slice, Walks, ends-at, walked, walk-meets}
 use denote.Exit.{yes}
 use borrow.Author.Tests.{eqb-false}
-use Rattle.judge.specs.Judge.{Call, callOf}
+use Rattle.gpu_judge.specs.Judge.{Call, callOf}
 use Rattle.gpu.specs.Draw as bytes
-use Rattle.records.specs.Entries.{rowBytes}
-use Rattle.records.specs.declared.entry.ObjBufferEntry.{ObjBufferEntry}
-use Rattle.records.proofs.Walks.{only-if}
-use Rattle.records.proofs.entry.ObjBufferEntry as T
-use Rattle.records.proofs.entry.ObjBufferEntry.Laws as T′
-use Rattle.records.proofs.load_row as load-row
-use Rattle.records.proofs.load_row.Symbol as load-def
-use Rattle.records.proofs.load_row.Symbol.{name as #load-row}
-use Rattle.records.proofs.load_row.Met as load-thm
-use Rattle.records.proofs.store_row as store-row
-use Rattle.records.proofs.store_row.Symbol as store-def
-use Rattle.records.proofs.store_row.Symbol.{name as #store-row}
-use Rattle.records.proofs.store_row.Met as store-thm
-use Rattle.drawn.specs.Draw.{DrawsRecords}
-use Rattle.drawn.specs.Values.{rowRefusal, drawnRow}
-use Rattle.drawn.specs.declared.Drawn.{Drawn}
-use Rattle.drawn.proofs.Draws.{row-whole, draws-refused, draws-kept, draws-written}
-use Rattle.drawn.proofs.Drawn as P
-use Rattle.drawn.proofs.Drawn.Laws as P′
-use Rattle.drawn.proofs.judge_row as judge-row
-use Rattle.drawn.proofs.judge_row.Symbol as judge-def
-use Rattle.drawn.proofs.judge_row.Symbol.{name as #judge-row}
-use Rattle.drawn.proofs.judge_row.Met as judge-thm
-use Rattle.drawn.proofs.draw_row as draw-row
-use Rattle.drawn.proofs.draw_row.Symbol as draw-def
-use Rattle.drawn.proofs.draw_row.Symbol.{name as #draw-row}
-use Rattle.drawn.proofs.draw_row.Met as draw-thm
+use Rattle.gpu_records.specs.Entries.{rowBytes}
+use Rattle.gpu_records.specs.declared.entry.ObjBufferEntry.{ObjBufferEntry}
+use Rattle.gpu_records.proofs.Walks.{only-if}
+use Rattle.gpu_records.proofs.entry.ObjBufferEntry as T
+use Rattle.gpu_records.proofs.entry.ObjBufferEntry.Laws as T′
+use Rattle.gpu_records.proofs.load_row as load-row
+use Rattle.gpu_records.proofs.load_row.Symbol as load-def
+use Rattle.gpu_records.proofs.load_row.Symbol.{name as #load-row}
+use Rattle.gpu_records.proofs.load_row.Met as load-thm
+use Rattle.gpu_records.proofs.store_row as store-row
+use Rattle.gpu_records.proofs.store_row.Symbol as store-def
+use Rattle.gpu_records.proofs.store_row.Symbol.{name as #store-row}
+use Rattle.gpu_records.proofs.store_row.Met as store-thm
+use Rattle.gpu_draw_records.specs.Draw.{DrawsRecords}
+use Rattle.gpu_draw_records.specs.Values.{rowRefusal, drawnRow}
+use Rattle.gpu_draw_records.specs.declared.Drawn.{Drawn}
+use Rattle.gpu_draw_records.proofs.Draws.{row-whole, draws-refused, draws-kept, draws-written}
+use Rattle.gpu_draw_records.proofs.Drawn as P
+use Rattle.gpu_draw_records.proofs.Drawn.Laws as P′
+use Rattle.gpu_draw_records.proofs.judge_row as judge-row
+use Rattle.gpu_draw_records.proofs.judge_row.Symbol as judge-def
+use Rattle.gpu_draw_records.proofs.judge_row.Symbol.{name as #judge-row}
+use Rattle.gpu_draw_records.proofs.judge_row.Met as judge-thm
+use Rattle.gpu_draw_records.proofs.draw_row as draw-row
+use Rattle.gpu_draw_records.proofs.draw_row.Symbol as draw-def
+use Rattle.gpu_draw_records.proofs.draw_row.Symbol.{name as #draw-row}
+use Rattle.gpu_draw_records.proofs.draw_row.Met as draw-thm
 use Rattle.ashlarkin.proofs.ashlarkin_draw_records.Key.{name as #self}
 use Rattle.ashlarkin.proofs.ashlarkin_draw_records as self
 use Rattle.ashlarkin.proofs.ashlarkin_draw_records.Statement as stated

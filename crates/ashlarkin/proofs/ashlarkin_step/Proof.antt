@@ -3,8 +3,8 @@
 use mathlib.Core.Path.{ap, _∙_}
 use mir.Facts.{toZ-ofZ}
 use borrow.Author.Needs.{needs}
-use Rattle.references.specs.Step.{step}
-use Rattle.references.proofs.Answers.{steps-are}
+use Rattle.gpu_step.specs.Step.{step}
+use Rattle.gpu_step.proofs.Answers.{steps-are}
 use Rattle.ashlarkin.proofs.ashlarkin_step.Statement.{statement}
 use Rattle.ashlarkin.proofs.ashlarkin_step.Tie as tie
 

@@ -41,17 +41,17 @@ use denote.Triple.Entry.{onEntry}
 use denote.Triple.Spec.{Meets, tripleOf}
 use denote.Triple.Table.{entered, cited}
 use denote.Triple.Walked.{says, Stays, stay-ref, walkOf, AllGo, goes-ref, Walks, ends-at, walked, walk-meets}
-use Rattle.records.specs.Step.{stepRecords}
-use Rattle.records.specs.declared.affine.BgAffine.{BgAffine}
-use Rattle.records.specs.declared.affine.PairStep.{PairStep}
-use Rattle.records.proofs.affine.BgAffine as T
-use Rattle.records.proofs.affine.BgAffine.Laws as T′
-use Rattle.records.proofs.affine.PairStep as P
-use Rattle.records.proofs.affine.PairStep.Laws as P′
-use Rattle.records.proofs.step_pair as step
-use Rattle.records.proofs.step_pair.Symbol as step-def
-use Rattle.records.proofs.step_pair.Symbol.{name as #records·step-pair}
-use Rattle.records.proofs.step_pair.Met as step-thm
+use Rattle.gpu_records.specs.Step.{stepRecords}
+use Rattle.gpu_records.specs.declared.affine.BgAffine.{BgAffine}
+use Rattle.gpu_records.specs.declared.affine.PairStep.{PairStep}
+use Rattle.gpu_records.proofs.affine.BgAffine as T
+use Rattle.gpu_records.proofs.affine.BgAffine.Laws as T′
+use Rattle.gpu_records.proofs.affine.PairStep as P
+use Rattle.gpu_records.proofs.affine.PairStep.Laws as P′
+use Rattle.gpu_records.proofs.step_pair as step
+use Rattle.gpu_records.proofs.step_pair.Symbol as step-def
+use Rattle.gpu_records.proofs.step_pair.Symbol.{name as #records·step-pair}
+use Rattle.gpu_records.proofs.step_pair.Met as step-thm
 use Rattle.ashlarkin.proofs.ashlarkin_step_records.Key.{name as #ashlarkin·ashlarkin-step-records}
 use Rattle.ashlarkin.proofs.ashlarkin_step_records as self
 use Rattle.ashlarkin.proofs.ashlarkin_step_records.Statement as stated

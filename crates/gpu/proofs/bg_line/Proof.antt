@@ -4,8 +4,8 @@ use mathlib.Core.Path.{_∙_, ap}
 use mir.Facts.{toZ-ofZ}
 use Rattle.rgb15.specs.Colour.{rgb}
 use Rattle.rows.specs.Tab.{tab}
-use Rattle.background.specs.Background.{backgroundColor}
-use Rattle.references.proofs.Ranges.{references-are, ranges-true}
+use Rattle.bg.specs.Background.{backgroundColor}
+use Rattle.gpu_step.proofs.Ranges.{references-are, ranges-true}
 use Rattle.gpu.proofs.Lines.{line-on, line-off}
 use Rattle.gpu.proofs.bg_line.Statement.{statement}
 use Rattle.gpu.proofs.bg_line.Tie as tie

@@ -5,7 +5,7 @@ use mir.Syntax.{w32}
 use mir.Val.{toZ, ofZ}
 use mir.Facts.{toZ-ofZ}
 use borrow.Author.Needs.{needs}
-use Rattle.judge.specs.Judge.{Call, callOf, verdict}
+use Rattle.gpu_judge.specs.Judge.{Call, callOf, verdict}
 use Rattle.gpu.specs.Ready.{Ready}
 use Rattle.gpu.proofs.Given.{calls-are, ready-same, entries-same, line-same}
 use Rattle.gpu.proofs.Given.{draws-accepted, draws-blank, draws-refused, ready-accepted, ready-after, sized-blank}

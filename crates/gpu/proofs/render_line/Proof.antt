@@ -12,10 +12,10 @@ use borrow.Author.Needs.{needs}
 use Rattle.memory.specs.Sizes.{registersSize}
 use Rattle.regs.specs.Registers.{dispcnt}
 use Rattle.regs.specs.Display.{mode}
-use Rattle.regular.specs.Lent.{Lent}
-use Rattle.references.specs.References.{inRanges}
-use Rattle.judge.specs.Judge.{Call, callOf}
-use Rattle.references.proofs.Ranges.{references-are}
+use Rattle.bg_regular.specs.Lent.{Lent}
+use Rattle.gpu_step.specs.References.{inRanges}
+use Rattle.gpu_judge.specs.Judge.{Call, callOf}
+use Rattle.gpu_step.proofs.Ranges.{references-are}
 use Rattle.gpu.proofs.Lines.{drawnLine-is, line-composed}
 use Rattle.gpu.proofs.render_line.Statement.{statement}
 use Rattle.gpu.proofs.render_line.Tie as tie

@@ -5,8 +5,8 @@ use native.Mathlib.Omega.{arith}
 use lib.ListN.{getD}
 use Rattle.rgb15.specs.Colour.{rgb}
 use Rattle.rows.proofs.Passed.{passed-to}
-use Rattle.entries.specs.Entry.{entryCells}
-use Rattle.sprites.specs.declared.attrs.ObjMode.{ObjMode}
+use Rattle.obj_entries.specs.Entry.{entryCells}
+use Rattle.obj_sprites.specs.declared.attrs.ObjMode.{ObjMode}
 use Rattle.obj.proofs.Pixels.{PutPart, putPart-from, putPart-inside}
 use Rattle.obj.proofs.mark_pixels.Statement.{statement}
 use Rattle.obj.proofs.mark_pixels.Tie as tie

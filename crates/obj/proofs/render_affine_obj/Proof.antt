@@ -4,9 +4,9 @@
 use Prim.Native.Nat.{_+_, _-_}
 use native.Mathlib.Omega.{arith}
 use borrow.Author.Needs.{needs}
-use Rattle.sprites.specs.Oam.{matrix}
-use Rattle.texels.proofs.Colors.{affineColor-outside}
-use Rattle.texels.proofs.Texels.{affineColor-row}
+use Rattle.obj_sprites.specs.Oam.{matrix}
+use Rattle.obj_texels.proofs.Colors.{affineColor-outside}
+use Rattle.obj_texels.proofs.Texels.{affineColor-row}
 use Rattle.obj.proofs.Pixels.{putRow-closed, putRow-open}
 use Rattle.obj.proofs.render_affine_obj.Statement.{statement}
 use Rattle.obj.proofs.render_affine_obj.Tie as tie

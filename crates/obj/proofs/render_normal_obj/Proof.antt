@@ -3,9 +3,9 @@
 -- Assumes nothing.
 use native.Mathlib.Omega.{arith}
 use borrow.Author.Needs.{needs}
-use Rattle.sprites.proofs.Places.{boxed-normal}
-use Rattle.texels.proofs.Colors.{normalColor-outside}
-use Rattle.texels.proofs.Texels.{normalColor-row}
+use Rattle.obj_sprites.proofs.Places.{boxed-normal}
+use Rattle.obj_texels.proofs.Colors.{normalColor-outside}
+use Rattle.obj_texels.proofs.Texels.{normalColor-row}
 use Rattle.obj.proofs.Pixels.{putRow-closed, putRow-open}
 use Rattle.obj.proofs.render_normal_obj.Statement.{statement}
 use Rattle.obj.proofs.render_normal_obj.Tie as tie

@@ -3,9 +3,9 @@
 use mathlib.Core.Path.{refl, ap, _∙_}
 use native.Mathlib.Omega.{arith}
 use borrow.Author.Needs.{needs}
-use Rattle.sprites.specs.Place.{onLine}
-use Rattle.sprites.specs.Sprite.{typedColor}
-use Rattle.sprites.proofs.Decode.{width-whole}
+use Rattle.obj_sprites.specs.Place.{onLine}
+use Rattle.obj_sprites.specs.Sprite.{typedColor}
+use Rattle.obj_sprites.proofs.Decode.{width-whole}
 use Rattle.obj.proofs.Pixels.{putRow-none}
 use Rattle.obj.proofs.Steps.{putRow-typed, putRow-affine}
 use Rattle.obj.proofs.render_obj.Statement.{statement}

@@ -4,8 +4,8 @@ use Prim.Native.Nat.{_-_}
 use native.Mathlib.Omega.{arith}
 use borrow.Author.Needs.{needs}
 use Rattle.rows.proofs.Passed.{composed-all}
-use Rattle.entries.specs.Entry.{entryCells}
-use Rattle.sprites.proofs.Drawn.{drawn-onLine}
+use Rattle.obj_entries.specs.Entry.{entryCells}
+use Rattle.obj_sprites.proofs.Drawn.{drawn-onLine}
 use Rattle.obj.proofs.Steps.{SpritesUpTo, sprites-first, sprites-next, source-is, putSprites-is}
 use Rattle.obj.proofs.render_objs.Statement.{statement}
 use Rattle.obj.proofs.render_objs.Tie as tie

@@ -1,7 +1,7 @@
 -- sfx::finalize_scanline meets its contract: the row that its calls make has each column's pixel.
 -- Assumes nothing.
 use borrow.Author.Needs.{needs}
-use Rattle.layers.proofs.Marks.{unmarked, object-bound}
+use Rattle.sfx_layers.proofs.Marks.{unmarked, object-bound}
 use Rattle.sfx.specs.Lines.{bgLine}
 use Rattle.sfx.proofs.Columns.{scanline-is}
 use Rattle.sfx.proofs.finalize_scanline.Statement.{statement}

@@ -4,8 +4,8 @@ use Prim.Native.Nat.{_-_}
 use mathlib.Core.Path.{refl, ap}
 use Rattle.rows.specs.Cells.{cellAt}
 use Rattle.rows.proofs.Tabbed.{Tabbed, tabbed-none, tabbed-more, tabbed-all}
-use Rattle.entries.specs.Entry.{entryCells}
-use Rattle.entries.specs.declared.Entry.{Entry}
+use Rattle.obj_entries.specs.Entry.{entryCells}
+use Rattle.obj_entries.specs.declared.Entry.{Entry}
 use Rattle.rows.proofs.Columns.{halves-fit, next-fits, fewer-left}
 use Rattle.sfx.proofs.object_colors.Statement.{statement}
 use Rattle.sfx.proofs.object_colors.Tie as tie

@@ -1,0 +1,98 @@
+-- Laws of points and pixels of affine and bitmap backgrounds. No contract cites this file. Assumes nothing.
+use mathlib.Core.Path.{_≡_, refl, ap, _∙_}
+use mathlib.Core.Bool.{Bool, true, false, not, cond}
+use lib.Dec.{eqb}
+use Prim.Native.Nat.{ℕ, zero, suc, _+_, _-_, _*_, _/_, _%_, _^_, _≤_, _<_}
+use mathlib.Core.List.{List}
+use native.Mathlib.Nat.{mul-le-mul}
+use native.Mathlib.Omega.{arith}
+use lib.IntN.{ℤ, pos, subℕ, _+ℤ_, _*ℤ_}
+use borrow.Author.Tests.{eq-eqb, ne-eqb}
+use Rattle.signed.specs.Signed.{signed16, down256}
+use Rattle.memory.specs.Memory.{byte, half}
+use Rattle.memory.specs.Palette.{paletteColor}
+use Rattle.memory.specs.declared.PixelFormat.the-variants.{BPP8}
+use Rattle.regs.specs.Background.{BgControlOf, charBlock, screenBlock}
+use Rattle.regs.specs.declared.BgControl.{BgControl}
+use Rattle.bg_regular.specs.Regular.{tileColor}
+use Rattle.bg_points.specs.Biased.{coordinate, Side}
+use Rattle.bg_points.specs.Point.{pointColor}
+use Rattle.bg_points.specs.declared.ViewPort.{ViewPort}
+use Rattle.bg_points.proofs.Points.{point-is}
+use Rattle.bg.specs.Bitmap.{BitmapViewPort, bitmapStart, bitmapPixel, bitmapColor}
+use Rattle.bg.specs.Affine.{affineSide, affineTile, affinePixel, affineColor}
+
+-- No side is longer than 1024.
+pub affineSide-bound : (size : ℕ) → size < 4 → affineSide size ≤ 1024
+affineSide-bound zero h = omega arith
+affineSide-bound (suc zero) h = omega arith
+affineSide-bound (suc (suc zero)) h = omega arith
+affineSide-bound (suc (suc (suc zero))) h = omega arith
+affineSide-bound (suc (suc (suc (suc size)))) h = omega arith
+
+-- The rows above a pixel of a bitmap.
+pub row-bound : (w y : ℕ) → w ≤ 240 → y < 160 → w * y ≤ 240 * 159
+row-bound w y w≤ y< = let y≤ : y ≤ 159 = omega arith in mul-le-mul w≤ y≤
+
+-- The tiles of the rows above a pixel of an affine map.
+pub tileRow-bound : (side y : ℕ) → side ≤ 1024 → y < side → side / 8 * (y / 8) ≤ 128 * 127
+tileRow-bound side y side≤ y< =
+    let across : side / 8 ≤ 128 = omega arith in
+    let down : y / 8 ≤ 127 = omega arith in
+    mul-le-mul across down
+
+-- What a bitmap is drawn with has sides that divide the bias, and none longer than the screen's.
+sides : (t : Bool) → (cond t 160 240 ≤ 240) × Side (cond t 160 240) × (cond t 128 160 ≤ 160) × Side (cond t 128 160)
+sides true = (omega arith, (omega arith, refl), omega arith, (omega arith, refl))
+sides false = (omega arith, (omega arith, refl), omega arith, (omega arith, refl))
+
+pub bitmapViewPort-sides : {mode : ℕ} {wraparound : Bool} {v : ViewPort} → BitmapViewPort mode wraparound v →
+    (v .w ≤ 240) × Side (v .w) × (v .h ≤ 160) × Side (v .h)
+bitmapViewPort-sides {mode} e = rw (e .w-is, e .h-is) (sides (eqb mode 5))
+
+-- ---- an affine background's pixel
+
+-- The colour at a pixel of an affine background, as it is made: what is read of the map, and its tile.
+pub affinePixel-is : (vram palette : List ℕ) (screen tiles side x y : ℕ) {tile c : ℕ} →
+    tile ≡ affineTile vram screen side x y → c ≡ tileColor vram palette (tiles + 0x40 * tile) (x % 8) (y % 8) BPP8 0 →
+    c ≡ affinePixel vram palette screen tiles side x y
+unfolding affinePixel
+affinePixel-is vram palette screen tiles side x y tile-is c-is =
+    c-is ∙ ap (λ (n : ℕ). tileColor vram palette (tiles + 0x40 * n) (x % 8) (y % 8) BPP8 0) tile-is
+
+-- ---- a bitmap's pixel, as it is made: what is read of it
+
+module _ (vram palette : List ℕ) (mode start w x y : ℕ) where
+  pub bitmapPixel-byte : {index c : ℕ} → mode ≡ 4 → index ≡ byte vram (start + (x + w * y)) → c ≡ paletteColor palette 0 index 0 →
+      c ≡ bitmapPixel vram palette mode start w x y
+  unfolding bitmapPixel
+  bitmapPixel-byte four index-is c-is = rw (eq-eqb mode 4 four) (c-is ∙ ap (λ (n : ℕ). paletteColor palette 0 n 0) index-is)
+
+  pub bitmapPixel-half : {c : ℕ} → (mode ≡ 4 → ⊥) → c ≡ half vram (start + 2 * (x + w * y)) → c ≡ bitmapPixel vram palette mode start w x y
+  unfolding bitmapPixel
+  bitmapPixel-half other c-is = rw (ne-eqb mode 4 other) c-is
+
+-- ---- a column's colour, as it is made
+
+module _ (vram palette : List ℕ) (control rx ry pa pc dx dy column x y : ℕ)
+    (pa-is : signed16 pa ≡ subℕ dx (2 ^ 15)) (pc-is : signed16 pc ≡ subℕ dy (2 ^ 15))
+    (x-is : down256 (subℕ rx (2 ^ 28) +ℤ pos column *ℤ subℕ dx (2 ^ 15)) ≡ coordinate x)
+    (y-is : down256 (subℕ ry (2 ^ 28) +ℤ pos column *ℤ subℕ dy (2 ^ 15)) ≡ coordinate y)
+    {b : BgControl} (control-is : BgControlOf control b) where
+  -- Of an affine background.
+  pub affineColor-is : {side screen tiles c : ℕ} →
+      side ≡ affineSide (b .size) → screen ≡ screenBlock (b .«screen_base_block») → tiles ≡ charBlock (b .«character_base_block») →
+      c ≡ pointColor (b .«affine_wraparound») side side (affinePixel vram palette screen tiles side) (coordinate x) (coordinate y) →
+      c ≡ affineColor vram palette control (subℕ rx (2 ^ 28)) (subℕ ry (2 ^ 28)) pa pc column
+  unfolding affineColor
+  affineColor-is side-is screen-is tiles-is color-is =
+      cc (point-is rx dx pa column x pa-is x-is, point-is ry dy pc column y pc-is y-is)
+
+  -- Of a bitmap.
+  pub bitmapColor-is : (mode frame : ℕ) {v : ViewPort} {start c : ℕ} →
+      BitmapViewPort mode (b .«affine_wraparound») v → start ≡ bitmapStart mode frame →
+      c ≡ pointColor (v .wraparound) (v .w) (v .h) (bitmapPixel vram palette mode start (v .w)) (coordinate x) (coordinate y) →
+      c ≡ bitmapColor vram palette mode frame control (subℕ rx (2 ^ 28)) (subℕ ry (2 ^ 28)) pa pc column
+  unfolding bitmapColor
+  bitmapColor-is mode frame viewport-is start-is color-is =
+      cc (point-is rx dx pa column x pa-is x-is, point-is ry dy pc column y pc-is y-is)

@@ -1,0 +1,130 @@
+// Bitmap backgrounds, of modes 3 to 5 (gpu/render/bitmap.rs), as one routine: they differ in size, page and pixel.
+ghost use mathlib.Core.Path.{_≡_};
+ghost use mathlib.Core.Bool.{true};
+ghost use Prim.Native.Nat.{_+_, _*_, _≤_, _<_};
+ghost use Rattle.rgb15.specs.Colour.{rgb};
+ghost use Rattle.signed.specs.Signed.{inRange};
+ghost use Rattle.rows.specs.Tab.{tab};
+ghost use Rattle.bg_regular.specs.Lent.{Lent};
+ghost use Rattle.bg_points.specs.Biased.{coordinate, Side};
+ghost use Rattle.bg_points.specs.Point.{pointColor};
+ghost use Rattle.bg.specs.Bitmap.{BitmapViewPort, bitmapStart, bitmapPixel, bitmapColor};
+use memory::DISPLAY_WIDTH;
+use memory::get_palette_color;
+use memory::read_8;
+use memory::read_16;
+use bg_points::ViewPort;
+use bg_points::rem_euclid;
+use bg_points::transform_bg_point;
+use regs::BgControl;
+use rgb15::Rgb15;
+use signed::lift_half;
+use signed::lift_i32;
+
+// The size of a mode's picture.
+fn bitmap_viewport(mode: u16, wraparound: bool) -> ViewPort
+    ensures { λ v. ⌜ BitmapViewPort mode wraparound v ⌝ }
+{
+    if mode == 5 {
+        ViewPort {
+            w: 160,
+            h: 128,
+            wraparound,
+        }
+    } else {
+        ViewPort {
+            w: 240,
+            h: 160,
+            wraparound,
+        }
+    }
+}
+
+// Where a mode's frame starts.
+fn page_ofs(mode: u16, frame: u16) -> usize
+    requires { ⌜ frame < 2 ⌝ }
+    ensures { λ r. ⌜ (r ≡ bitmapStart mode frame) × (r ≤ 0xa000) ⌝ }
+{
+    if mode == 3 {
+        0
+    } else {
+        frame as usize * 0xa000
+    }
+}
+
+// The colour at a pixel of a bitmap: words taken whole, or bytes through the palette.
+fn bitmap_pixel(
+    vram: &[u8],
+    palette: &[u8],
+    mode: u16,
+    page: usize,
+    w: usize,
+    x: usize,
+    y: usize,
+) -> Rgb15
+    requires { ⌜ Lent (now vram) (now palette) × (page ≤ 0xa000) × (w ≤ 240) × (x < w) × (y < 160) ⌝ }
+    ensures { λ c. ⌜ c .0 ≡ bitmapPixel (now (vram .entry)) (now (palette .entry)) mode page w x y ⌝ }
+{
+    let index = x + w * y;
+    if mode == 4 {
+        get_palette_color(palette, read_8(vram, page + index), 0, 0)
+    } else {
+        Rgb15(read_16(vram, page + 2 * index))
+    }
+}
+
+// The colour at a point of a bitmap.
+fn bitmap_color(
+    vram: &[u8],
+    palette: &[u8],
+    mode: u16,
+    page: usize,
+    viewport: ViewPort,
+    x: u32,
+    y: u32,
+) -> Rgb15
+    requires { ⌜ Lent (now vram) (now palette) × (page ≤ 0xa000)
+        × (viewport .w ≤ 240) × Side (viewport .w) × (viewport .h ≤ 160) × Side (viewport .h) ⌝ }
+    ensures { λ c. ⌜ c .0 ≡ pointColor (viewport .wraparound) (viewport .w) (viewport .h)
+        (bitmapPixel (now (vram .entry)) (now (palette .entry)) mode page (viewport .w)) (coordinate x) (coordinate y) ⌝ }
+{
+    if !viewport.shows(x, y) {
+        return Rgb15::TRANSPARENT;
+    }
+    let px = rem_euclid(x, viewport.w) as usize;
+    let py = rem_euclid(y, viewport.h) as usize;
+    bitmap_pixel(vram, palette, mode, page, viewport.w as usize, px, py)
+}
+
+// A bitmap's line.
+pub fn render_bitmap(
+    vram: &[u8],
+    palette: &[u8],
+    mode: u16,
+    frame: u16,
+    control: u16,
+    ref_x: i32,
+    ref_y: i32,
+    pa: u16,
+    pc: u16,
+) -> [Rgb15; 240]
+    requires { ⌜ Lent (now vram) (now palette) × (frame < 2) × (inRange «ref_x» ≡ true) × (inRange «ref_y» ≡ true) ⌝ }
+    ensures { λ r. ⌜ r ≡ tab (λ column. rgb (bitmapColor (now (vram .entry)) (now (palette .entry)) mode frame control «ref_x» «ref_y» pa pc column)) 240 ⌝ }
+{
+    let bgcnt = BgControl::from(control);
+    let viewport = bitmap_viewport(mode, bgcnt.affine_wraparound);
+    let page = page_ofs(mode, frame);
+    let rx = lift_i32(ref_x);
+    let ry = lift_i32(ref_y);
+    let dx = lift_half(pa);
+    let dy = lift_half(pc);
+    let mut bg_line = [Rgb15::TRANSPARENT; 240];
+    let mut screen_x: usize = 0;
+    while screen_x < DISPLAY_WIDTH {
+        let x = transform_bg_point(rx, dx, screen_x as u32);
+        let y = transform_bg_point(ry, dy, screen_x as u32);
+        bg_line[screen_x] = bitmap_color(vram, palette, mode, page, viewport, x, y);
+        screen_x += 1;
+    }
+    bg_line
+}

@@ -1,0 +1,67 @@
+// The line-end step on records (gpu/mod.rs, `BgAffine` and `handle_hblank_end`).
+ghost use mathlib.Core.Path.{_≡_};
+ghost use Rattle.gpu_records.specs.Step.{movedTo, stepRecords};
+use gpu_step::Stepped;
+use gpu_step::step_references;
+
+// A background's numbers for rotation and scaling: the matrix, the reference point as it was written, and as it is now.
+#[repr(C)]
+pub struct BgAffine {
+    pub pa: i16,
+    pub pb: i16,
+    pub pc: i16,
+    pub pd: i16,
+    pub x: i32,
+    pub y: i32,
+    pub internal_x: i32,
+    pub internal_y: i32,
+}
+
+// What the step gives: its number, and both records afterwards.
+pub struct PairStep {
+    pub number: u32,
+    pub bg2: BgAffine,
+    pub bg3: BgAffine,
+}
+
+// A background with its point at x and y.
+fn moved_to(bg: BgAffine, x: i32, y: i32) -> BgAffine
+    ensures { λ r. ⌜ r ≡ movedTo bg x y ⌝ }
+{
+    let mut moved = bg;
+    moved.internal_x = x;
+    moved.internal_y = y;
+    moved
+}
+
+// Both backgrounds stepped, or neither.
+pub fn step_pair(bg2: BgAffine, bg3: BgAffine) -> PairStep
+    ensures { λ r. ⌜ r ≡ stepRecords bg2 bg3 ⌝ }
+{
+    let to = step_references(
+        bg2.pb,
+        bg2.pd,
+        bg3.pb,
+        bg3.pd,
+        bg2.internal_x,
+        bg2.internal_y,
+        bg3.internal_x,
+        bg3.internal_y,
+    );
+    match to {
+        Stepped::Refused => PairStep {
+            number: 6,
+            bg2,
+            bg3,
+        },
+        Stepped::To(x2, y2, x3, y3) => {
+            let to2 = moved_to(bg2, x2, y2);
+            let to3 = moved_to(bg3, x3, y3);
+            PairStep {
+                number: 0,
+                bg2: to2,
+                bg3: to3,
+            }
+        }
+    }
+}

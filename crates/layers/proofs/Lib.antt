@@ -1,9 +1,0 @@
--- Laws of layers, for the proofs of this crate and of those above it, which reach them as Rattle.layers.proofs.NAME.
--- No contract cites them. Assumes nothing.
---
--- Words: what calls give is what specs/Words.antt says. Columns: words are those of layers and regions. Marks: which tags have
--- no mark of a semi-transparent object. Places: for callers, the layers of the places are the backgrounds in their order.
-pub mod Columns
-pub mod Marks
-pub mod Places
-pub mod Words

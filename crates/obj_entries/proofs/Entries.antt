@@ -1,0 +1,109 @@
+-- Laws of entries. No contract cites this file. Assumes nothing.
+use Prim.Native.Nat.{ℕ, _+_, _*_, _/_, _%_, _<_}
+use native.Mathlib.Omega.{arith}
+use mathlib.Core.Path.{_≡_, refl, ap, ap₂, _∙_}
+use mathlib.Core.Bool.{Bool, true, false, cond}
+use mathlib.Core.List.{List, [], _∷_}
+use lib.Dec.{eqb}
+use lib.ListN.{getD}
+use mir.Syntax.{w8}
+use mir.Val.{Fits}
+use Rattle.rgb15.specs.Colour.{rgb}
+use Rattle.rows.specs.Below.{tally}
+use Rattle.rows.specs.Bytes.{bytesFrom, putFrom}
+use Rattle.rows.specs.Cells.{cellAt, putCell, Exact}
+use Rattle.rows.specs.Words.{wordCells}
+use Rattle.rows.proofs.Below.{allBelow-tally}
+use Rattle.rows.proofs.Bytes.{bytesAt, bytesFrom-at}
+use Rattle.rows.proofs.Words.{low-join, high-join}
+use Rattle.obj_entries.specs.Entry.{entryCells, wellShaped, shapedRow}
+use Rattle.obj_entries.specs.Word.{entryOf}
+use Rattle.obj_entries.specs.declared.Entry.{Entry}
+
+-- A row of bytes is exact.
+pub exact-entryCells : (l : List ℕ) → ((i : ℕ) → Fits w8 (getD l i 0)) → (k : ℕ) → Exact entryCells l k
+unfolding entryCells cellAt bytesFrom
+exact-entryCells l bytes k = let fits = bytes (4 * k) in simp (low-join, high-join)
+
+-- A number in two parts, at 2^16 and at 2^24.
+low-part : (low high : ℕ) → low < 0x10000 → (low + 0x10000 * high) % 0x10000 ≡ low
+low-part low high low< = omega arith
+
+high-part : (low high : ℕ) → low < 0x10000 → (low + 0x10000 * high) / 0x10000 ≡ high
+high-part low high low< = omega arith
+
+top-part : (low high : ℕ) → low < 0x1000000 → (low + 0x1000000 * high) / 0x1000000 ≡ high
+top-part low high low< = omega arith
+
+-- The colour, the priority and the marks in a word.
+module _ (color priority marks : ℕ) {w : ℕ} (color< : color < 0x10000) (fits : Fits w8 priority)
+    (word-is : w ≡ color + 0x10000 * priority + 0x1000000 * marks) where
+  halves : w ≡ color + 0x10000 * (priority + 256 * marks)
+  halves = omega arith
+
+  word-color : w % 0x10000 ≡ color
+  word-color = rw halves (low-part color (priority + 256 * marks) color<)
+
+  word-priority : w / 0x10000 % 0x100 ≡ priority
+  word-priority = rw (halves, high-part color (priority + 256 * marks) color<) (low-join priority marks fits)
+
+  word-marks : w / 0x1000000 ≡ marks
+  word-marks = rw word-is (top-part (color + 0x10000 * priority) marks (omega arith))
+
+  pub entryOf-parts : entryOf w ≡ record { color = rgb color; priority = priority; marks = marks }
+  entryOf-parts = λ i. record { color = rgb (word-color i); priority = word-priority i; marks = word-marks i }
+
+-- The entry of a word that was read.
+pub entry-of-word : (l : List ℕ) → ((i : ℕ) → Fits w8 (getD l i 0)) → (k : ℕ) {w : ℕ} → w ≡ cellAt wordCells l k
+    → entryOf w ≡ cellAt entryCells l k
+unfolding entryCells wordCells cellAt bytesAt
+entry-of-word l bytes k {w} read =
+    let word-is : w ≡ getD l (4 * k) 0 + 0x100 * getD l (4 * k + 1) 0 + 0x10000 * getD l (4 * k + 2) 0
+    + 0x1000000 * getD l (4 * k + 3) 0
+    = rw bytesFrom-at at read in
+    let first = bytes (4 * k) in
+    let second = bytes (4 * k + 1) in
+    let third = bytes (4 * k + 2) in
+    rw bytesFrom-at
+    (entryOf-parts (getD l (4 * k) 0 + 256 * getD l (4 * k + 1) 0) (getD l (4 * k + 2) 0) (getD l (4 * k + 3) 0)
+    (omega arith) third word-is)
+
+-- The two bytes of a word's colour.
+low-byte : (w : ℕ) → w % 0x100 ≡ w % 0x10000 % 256
+low-byte w = omega arith
+
+high-byte : (w : ℕ) → w / 0x100 % 0x100 ≡ w % 0x10000 / 256
+high-byte w = omega arith
+
+-- A word that is put is its entry put.
+putCell-word : (l : List ℕ) (k w : ℕ) → putCell wordCells l k w ≡ putCell entryCells l k (entryOf w)
+unfolding putCell entryCells wordCells
+putCell-word l k w =
+    ap₂ (λ a b. putFrom l (4 * k) (a ∷ b ∷ w / 0x10000 % 0x100 ∷ w / 0x1000000 ∷ [])) (low-byte w) (high-byte w)
+
+-- One of two words is put, the one that was read or that of an entry.
+pub putCell-chosen : (l : List ℕ) → ((i : ℕ) → Fits w8 (getD l i 0)) → (k : ℕ) (kept : Bool)
+    (w : ℕ) {v u : ℕ} {m : List ℕ} {e : Entry}
+    → v ≡ cellAt wordCells l k → entryOf w ≡ e → u ≡ cond kept v w → m ≡ putCell wordCells l k u
+    → m ≡ putCell entryCells l k (cond kept (cellAt entryCells l k) e)
+putCell-chosen l bytes k kept w {v} {e = e} v-is w-is u-is m-is =
+    m-is
+    ∙ putCell-word l k _
+    ∙ ap (λ u. putCell entryCells l k (entryOf u)) u-is
+    ∙ ap (putCell entryCells l k) (go kept)
+  where
+    go : (kept : Bool) → entryOf (cond kept v w) ≡ cond kept (cellAt entryCells l k) e
+    go true = entry-of-word l bytes k v-is
+    go false = w-is
+
+-- The fault of entry k of a row: 0 if it is well shaped, else 1.
+abbrev pub faultAt : List ℕ → ℕ → ℕ
+faultAt entries k = cond (wellShaped (cellAt entryCells entries k)) 0 1
+
+eqb-fault : (b : Bool) → eqb (cond b 0 1) 0 ≡ b
+eqb-fault true = refl
+eqb-fault false = refl
+
+-- A row is well shaped if its faults sum to 0.
+pub shapedRow-faults : (entries : List ℕ) → eqb (tally (faultAt entries) 240) 0 ≡ shapedRow entries
+shapedRow-faults entries = allBelow-tally _ (faultAt entries) 240 (λ k lt. eqb-fault _)

@@ -1,0 +1,122 @@
+-- Laws of decoded sprites. No contract cites this file. Assumes nothing.
+use Prim.Native.Nat.{ℕ, zero, suc, _+_, _*_, _/_, _%_, _^_, _≤_, _<_}
+use native.Mathlib.Omega.{arith}
+use mathlib.Core.Path.{_≡_, refl, sym, ap, ap₂, _∙_}
+use mathlib.Core.Bool.{true, _&&_}
+use mathlib.Core.List.{List}
+use lib.Dec.{eqb, leb}
+use lib.IntN.{subℕ}
+use borrow.Author.Tests.{eqb-true, leb-true}
+use Rattle.bits.specs.Bits.{bits, bit}
+use Rattle.signed.specs.Signed.{signed16}
+use Rattle.signed.proofs.Order.{and-both}
+use Rattle.rows.specs.Below.{allBelow}
+use Rattle.rows.proofs.Below.{allBelow-at}
+use Rattle.memory.specs.Memory.{half}
+use Rattle.regs.specs.Background.{tileFormat}
+use Rattle.obj_sprites.specs.Oam.{Attributes, attributes}
+use Rattle.obj_sprites.specs.Size.{widths, heights, objWidth, objHeight}
+use Rattle.obj_sprites.specs.Attrs.{objType, objMode, objAttrs, sprite}
+use Rattle.obj_sprites.specs.declared.attrs.ObjAttrs.{ObjAttrs}
+
+-- A sprite whose every field is what the halfwords say is their sprite.
+pub objAttrs-ext : (s : ObjAttrs) (a : Attributes)
+    → s .y ≡ bits 7 0 (a .first)
+    → s .objtype ≡ objType (bits 9 8 (a .first))
+    → s .objmode ≡ objMode (bits 11 10 (a .first))
+    → s .format ≡ tileFormat (bit 13 (a .first))
+    → s .x ≡ bits 8 0 (a .second)
+    → s .«affine_index» ≡ bits 13 9 (a .second)
+    → s .«h_flip» ≡ bit 12 (a .second)
+    → s .«v_flip» ≡ bit 13 (a .second)
+    → s .width ≡ objWidth (bits 15 14 (a .second)) (bits 15 14 (a .first))
+    → s .height ≡ objHeight (bits 15 14 (a .second)) (bits 15 14 (a .first))
+    → s .tile ≡ bits 9 0 (a .third)
+    → s .priority ≡ bits 11 10 (a .third)
+    → s .bank ≡ bits 15 12 (a .third)
+    → s ≡ objAttrs a
+unfolding objAttrs
+objAttrs-ext s a y objtype objmode format x affine hflip vflip width height tile priority bank =
+    λ i.
+    record {
+      y = y i;
+      objtype = objtype i;
+      objmode = objmode i;
+      format = format i;
+      x = x i;
+      «affine_index» = affine i;
+      «h_flip» = hflip i;
+      «v_flip» = vflip i;
+      width = width i;
+      height = height i;
+      tile = tile i;
+      priority = priority i;
+      bank = bank i;
+    }
+
+-- The sprite of three halfwords that were read.
+pub sprite-is : (oam : List ℕ) (n : ℕ) {a b d : ℕ} {s : ObjAttrs}
+    → a ≡ half oam (8 * n) → b ≡ half oam (8 * n + 2) → d ≡ half oam (8 * n + 4)
+    → s ≡ objAttrs (record { first = a; second = b; third = d })
+    → s ≡ sprite oam n
+unfolding attributes
+sprite-is oam n p q r e = e ∙ ap objAttrs (λ i. record { first = p i; second = q i; third = r i })
+
+-- A halfword that was read and lifted.
+pub signed16-read : (w h r : ℕ) → h ≡ w → signed16 h ≡ subℕ r (2 ^ 15) → signed16 w ≡ subℕ r (2 ^ 15)
+signed16-read w h r e p = ap signed16 (sym e) ∙ p
+
+-- A sprite's priority is 0 to 3.
+pub priority-bound : (a : Attributes) → objAttrs a .priority ≤ 3
+unfolding objAttrs
+priority-bound a = omega arith
+
+-- ---- sizes, of which 4 * shape + size is the number
+
+-- The size of number n.
+size-at : (n size shape : ℕ) → size < 4 → 4 * shape + size ≡ n
+    → (objWidth (n % 4) (n / 4) ≡ objWidth size shape) × (objHeight (n % 4) (n / 4) ≡ objHeight size shape)
+size-at n size shape size< n-is =
+    let column : n % 4 ≡ size = omega arith in
+    let row : n / 4 ≡ shape = omega arith in
+    (ap₂ objWidth column row, ap₂ objHeight column row)
+
+sizes-bound : allBelow (λ n. leb (objWidth (n % 4) (n / 4)) 64 && leb (objHeight (n % 4) (n / 4)) 64) 16 ≡ true
+unfolding objWidth objHeight widths heights allBelow
+sizes-bound = refl
+
+-- What a table of all 16 sizes has at n.
+pub size-is : (n size shape : ℕ) → size < 4 → shape < 4 → 4 * shape + size ≡ n
+    → (objWidth (n % 4) (n / 4) ≡ objWidth size shape)
+    × (objHeight (n % 4) (n / 4) ≡ objHeight size shape)
+    × (objWidth (n % 4) (n / 4) ≤ 64)
+    × (objHeight (n % 4) (n / 4) ≤ 64)
+size-is n size shape size< shape< n-is =
+    let sized = size-at n size shape size< n-is in
+    let bounds = and-both _ _ (allBelow-at _ 16 sizes-bound n (omega arith)) in
+    (sized .0, sized .1, leb-true _ _ (bounds .0), leb-true _ _ (bounds .1))
+
+-- Every width is one of whole tiles.
+widths-whole : allBelow (λ n. eqb (objWidth (n % 4) (n / 4) % 8) 0) 16 ≡ true
+unfolding objWidth widths allBelow
+widths-whole = refl
+
+objWidth-whole : (size shape : ℕ) → size < 4 → shape < 4 → objWidth size shape % 8 ≡ 0
+objWidth-whole size shape size< shape< =
+    let n = 4 * shape + size in
+    ap (λ width. width % 8) (sym (size-at n size shape size< refl .0))
+    ∙ eqb-true _ _ (allBelow-at _ 16 widths-whole n (omega arith))
+
+-- n is none of the numbers below k, as the last arm of a `match` is told.
+abbrev pub NoneBelow : ℕ → ℕ → Type 0
+NoneBelow zero n = Unit
+NoneBelow (suc k) n = NoneBelow k n × (n ≡ k → ⊥)
+
+pub noneBelow-bound : (k n : ℕ) → NoneBelow k n → k ≤ n
+noneBelow-bound zero n none = omega arith
+noneBelow-bound (suc k) n none = omega (arith, noneBelow-bound k n (none .0), none .1)
+
+pub width-whole : (a : Attributes) {s : ObjAttrs} → s ≡ objAttrs a → s .width % 8 ≡ 0
+unfolding objAttrs
+width-whole a s-is =
+    ap (λ s. s .width % 8) s-is ∙ objWidth-whole (bits 15 14 (a .second)) (bits 15 14 (a .first)) (omega arith) (omega arith)

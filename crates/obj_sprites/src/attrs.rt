@@ -1,0 +1,306 @@
+// A sprite's attributes, decoded (render/obj.rs: `ObjAttrs`, its enums and its bit fields). R and H agree wherever a
+// reading is passed on.
+ghost use mathlib.Core.Path.{_≡_};
+ghost use mathlib.Core.Bool.{true};
+ghost use Prim.Native.Nat.{ℕ, _+_, _^_, _≤_, _<_};
+ghost use lib.IntN.{pos, subℕ};
+ghost use Rattle.signed.specs.Signed.{within};
+ghost use Rattle.memory.specs.Sizes.{videoRamSize};
+ghost use Rattle.regs.specs.Background.{tileFormat};
+ghost use Rattle.regs.specs.declared.reading.Reading.{Reading};
+ghost use Rattle.obj_sprites.specs.Size.{objWidth, objHeight};
+ghost use Rattle.obj_sprites.specs.Attrs.{objMode, objType, objAttrs, Decoded};
+ghost use Rattle.obj_sprites.specs.Place.{boxed, boxWidth, boxHeight, left, top, below, onLine};
+ghost use Rattle.obj_sprites.specs.Tiles.{tileBase, tileRow, tileAt};
+ghost use Rattle.obj_sprites.specs.Sprite.{isShown, isPermitted, drawn};
+use memory::PixelFormat;
+use regs::ObjMapping;
+use regs::Reading;
+
+const OVRAM: usize = 0x1_0000;
+
+// Bytes that a tile number counts.
+const TILE_STEP: usize = 0x20;
+
+// What a box's left edge and its top are larger by in code, so that neither is below 0.
+pub const X_BIAS: usize = 272;
+
+const Y_BIAS: usize = 96;
+
+// The lines of the highest box.
+const BOX_MAX: usize = 128;
+
+pub enum ObjMode {
+    Normal,
+    Sfx,
+    Window,
+    Forbidden,
+}
+
+impl ObjMode {
+    fn from(value: u16) -> ObjMode
+        requires { ⌜ value < 4 ⌝ }
+        ensures { λ r. ⌜ r ≡ objMode value ⌝ }
+    {
+        match value {
+            0 => ObjMode::Normal,
+            1 => ObjMode::Sfx,
+            2 => ObjMode::Window,
+            _ => ObjMode::Forbidden,
+        }
+    }
+
+    // Whether sprites of this mode are drawn.
+    fn is_permitted(self) -> bool
+        ensures { λ r. ⌜ r ≡ isPermitted self ⌝ }
+    {
+        match self {
+            ObjMode::Normal => true,
+            ObjMode::Sfx => true,
+            ObjMode::Window => true,
+            ObjMode::Forbidden => false,
+        }
+    }
+}
+
+pub enum ObjType {
+    Normal,
+    Affine,
+    Hidden,
+    AffineDoubleSize,
+}
+
+impl ObjType {
+    fn from(value: u16) -> ObjType
+        requires { ⌜ value < 4 ⌝ }
+        ensures { λ r. ⌜ r ≡ objType value ⌝ }
+    {
+        match value {
+            0 => ObjType::Normal,
+            1 => ObjType::Affine,
+            2 => ObjType::Hidden,
+            _ => ObjType::AffineDoubleSize,
+        }
+    }
+
+    // Whether sprites of this type are drawn.
+    fn is_shown(self) -> bool
+        ensures { λ r. ⌜ r ≡ isShown self ⌝ }
+    {
+        match self {
+            ObjType::Normal => true,
+            ObjType::Affine => true,
+            ObjType::Hidden => false,
+            ObjType::AffineDoubleSize => true,
+        }
+    }
+
+    // A side of the box.
+    fn boxed(self, side: usize) -> usize
+        requires { ⌜ side ≤ 64 ⌝ }
+        ensures { λ r. ⌜ (r ≡ boxed self side) × (r ≤ 128) ⌝ }
+    {
+        match self {
+            ObjType::Normal => side,
+            ObjType::Affine => side,
+            ObjType::Hidden => side,
+            ObjType::AffineDoubleSize => 2 * side,
+        }
+    }
+}
+
+// A width and a height.
+struct ObjSize(usize, usize);
+
+impl ObjSize {
+    fn from(size: u16, shape: u16) -> ObjSize
+        requires { ⌜ (size < 4) × (shape < 4) ⌝ }
+        ensures { λ r.
+            ⌜ (r .0 ≡ objWidth size shape)
+            × (r .1 ≡ objHeight size shape)
+            × (r .0 ≤ 64)
+            × (r .1 ≤ 64) ⌝ }
+    {
+        // All 16 are written out, so that this is a table and has no jump.
+        match 4 * shape + size {
+            // Square
+            0 => ObjSize(8, 8),
+            1 => ObjSize(16, 16),
+            2 => ObjSize(32, 32),
+            3 => ObjSize(64, 64),
+            // Wide
+            4 => ObjSize(16, 8),
+            5 => ObjSize(32, 8),
+            6 => ObjSize(32, 16),
+            7 => ObjSize(64, 32),
+            // Tall
+            8 => ObjSize(8, 16),
+            9 => ObjSize(8, 32),
+            10 => ObjSize(16, 32),
+            11 => ObjSize(32, 64),
+            // Prohibited
+            12 => ObjSize(8, 8),
+            13 => ObjSize(8, 8),
+            14 => ObjSize(8, 8),
+            _ => ObjSize(8, 8),
+        }
+    }
+}
+
+// How many colours a sprite has, by its bit.
+fn tile_format(is_8bpp: bool) -> PixelFormat
+    ensures { λ r. ⌜ r ≡ tileFormat «is_8bpp» ⌝ }
+{
+    if is_8bpp {
+        PixelFormat::BPP8
+    } else {
+        PixelFormat::BPP4
+    }
+}
+
+// Whether a place lies in the `size` places from `from` on.
+pub fn is_inside(at: usize, from: usize, size: usize) -> bool
+    requires { ⌜ (from ≤ 2 ^ 16) × (size ≤ 128) ⌝ }
+    ensures { λ r. ⌜ r ≡ within (subℕ at from) size ⌝ }
+{
+    (from <= at) & (at < from + size)
+}
+
+// A sprite, field by field in the order of its bits; x and y are as its halfwords hold them.
+pub struct ObjAttrs {
+    pub y: usize,
+    pub objtype: ObjType,
+    pub objmode: ObjMode,
+    pub format: PixelFormat,
+    pub x: usize,
+    pub affine_index: usize,
+    pub h_flip: bool,
+    pub v_flip: bool,
+    pub width: usize,
+    pub height: usize,
+    pub tile: usize,
+    pub priority: u8,
+    pub bank: usize,
+}
+
+impl ObjAttrs {
+    pub(crate) fn from(attr0: u16, attr1: u16, attr2: u16) -> ObjAttrs
+        ensures { λ s.
+            ⌜ (s ≡ objAttrs (record { first = attr0; second = attr1; third = attr2 })) × Decoded s ⌝ }
+    {
+        let size = ObjSize::from(attr1 / 0x4000 % 4, attr0 / 0x4000 % 4);
+        ObjAttrs {
+            y: (attr0 % 0x100) as usize,
+            objtype: ObjType::from(attr0 / 0x100 % 4),
+            objmode: ObjMode::from(attr0 / 0x400 % 4),
+            format: tile_format(attr0 / 0x2000 % 2 == 1),
+            x: (attr1 % 0x200) as usize,
+            affine_index: (attr1 / 0x200 % 32) as usize,
+            h_flip: attr1 / 0x1000 % 2 == 1,
+            v_flip: attr1 / 0x2000 % 2 == 1,
+            width: size.0,
+            height: size.1,
+            tile: (attr2 % 0x400) as usize,
+            priority: (attr2 / 0x400 % 4) as u8,
+            bank: (attr2 / 0x1000) as usize,
+        }
+    }
+
+    // The column of the box's left edge, plus 272.
+    pub fn left(self, reading: Reading) -> usize
+        requires { ⌜ Decoded self ⌝ }
+        ensures { λ r. ⌜ (left reading self ≡ subℕ r 272) × (r ≤ 511) ⌝ }
+    {
+        (self.x + X_BIAS) % 512
+    }
+
+    // The line of the box's top, plus 96.
+    pub(crate) fn top(self, reading: Reading) -> usize
+        requires { ⌜ Decoded self ⌝ }
+        ensures { λ r. ⌜ (top reading self ≡ subℕ r 96) × (r ≤ 255) ⌝ }
+    {
+        (self.y + Y_BIAS) % 256
+    }
+
+    // The width of the box.
+    pub fn box_width(self) -> usize
+        requires { ⌜ Decoded self ⌝ }
+        ensures { λ r. ⌜ (r ≡ boxWidth self) × (r ≤ 128) ⌝ }
+    {
+        let objtype = self.objtype;
+        objtype.boxed(self.width)
+    }
+
+    // The height of the box.
+    pub fn box_height(self) -> usize
+        requires { ⌜ Decoded self ⌝ }
+        ensures { λ r. ⌜ (r ≡ boxHeight self) × (r ≤ 128) ⌝ }
+    {
+        let objtype = self.objtype;
+        objtype.boxed(self.height)
+    }
+
+    // The row of the box that a line is.
+    pub fn row(self, reading: Reading, line: usize) -> usize
+        requires { ⌜ Decoded self × (line < 160) × (onLine reading self line ≡ true) ⌝ }
+        ensures { λ r. ⌜ (below reading self line ≡ pos r) × (r < boxHeight self) ⌝ }
+    {
+        line + Y_BIAS - self.top(reading)
+    }
+
+    // Where the sprite's tiles start.
+    pub(crate) fn tile_base(self, reading: Reading) -> usize
+        requires { ⌜ Decoded self ⌝ }
+        ensures { λ r. ⌜ (r ≡ tileBase reading self) × (r ≤ 98272) ⌝ }
+    {
+        OVRAM + TILE_STEP * self.tile
+    }
+
+    // How many tiles further the next row of tiles is.
+    fn tile_array_width(self, mapping: ObjMapping) -> usize
+        requires { ⌜ Decoded self ⌝ }
+        ensures { λ r. ⌜ (r ≡ tileRow mapping (self .format) (self .width)) × (r ≤ 32) ⌝ }
+    {
+        match mapping {
+            ObjMapping::OneDimension => self.width / 8,
+            ObjMapping::TwoDimension => {
+                let format = self.format;
+                match format {
+                    PixelFormat::BPP8 => 16,
+                    PixelFormat::BPP4 => 32,
+                }
+            }
+        }
+    }
+
+    // The address of the tile that holds pixel (x, y) of the sprite.
+    pub fn tile_at(self, reading: Reading, mapping: ObjMapping, x: usize, y: usize) -> usize
+        requires { ⌜ Decoded self × (x < self .width) × (y < self .height) ⌝ }
+        ensures { λ r. ⌜ (r ≡ tileAt reading mapping self x y) × (r + 63 < videoRamSize) ⌝ }
+    {
+        let format = self.format;
+        let tile_size = format.tile_size();
+        let row = self.tile_array_width(mapping);
+        self.tile_base(reading) + tile_size * (x / 8 + row * (y / 8))
+    }
+
+    // Whether the sprite is drawn on a line. Most are ruled out before their size is looked up.
+    pub fn is_drawn(self, reading: Reading, tiles_start: usize, line: usize) -> bool
+        requires { ⌜ Decoded self × (line < 160) ⌝ }
+        ensures { λ r. ⌜ r ≡ drawn reading «tiles_start» self line ⌝ }
+    {
+        let objtype = self.objtype;
+        let objmode = self.objmode;
+        let at = line + Y_BIAS;
+        let top = self.top(reading);
+        if !objtype.is_shown() {
+            return false;
+        }
+        if (at < top) | (top + BOX_MAX <= at) {
+            return false;
+        }
+        let on_line = at < top + self.box_height();
+        let has_tiles = tiles_start <= self.tile_base(reading);
+        objmode.is_permitted() & on_line & has_tiles
+    }
+}

@@ -1,0 +1,97 @@
+// Sprites, from their attributes to the colour of a pixel (gpu/render/obj.rs). The attributes have a file of their own.
+ghost use mathlib.Core.Path.{_≡_};
+ghost use Prim.Native.Nat.{_<_};
+ghost use lib.ListN.{length};
+ghost use Rattle.memory.specs.Sizes.{videoRamSize, paletteRamSize, oamSize};
+ghost use Rattle.obj_sprites.specs.Attrs.{sprite, Decoded};
+ghost use Rattle.obj_sprites.specs.Tiles.{tilesStart, texel};
+ghost use Rattle.obj_sprites.specs.Color.{flip};
+
+mod attrs;
+
+pub use attrs::ObjAttrs;
+pub use attrs::ObjMode;
+pub use attrs::ObjType;
+pub use attrs::X_BIAS;
+pub use attrs::is_inside;
+use memory::read_16;
+use regs::ObjMapping;
+use regs::Reading;
+use rgb15::Rgb15;
+use tiles::tile_color;
+
+// Where the sprites' half of the palette starts.
+pub const PALRAM_OFS_FG: usize = 0x200;
+
+pub const ATTRS_SIZE: usize = 2 * 3 + 2;
+
+pub const OBJ_COUNT: usize = 128;
+
+const VRAM_OBJ_TILES_START_TEXT: usize = 0x1_0000;
+
+const VRAM_OBJ_TILES_START_BITMAP: usize = 0x1_4000;
+
+// Sprite obj of OAM.
+pub fn read_obj_attrs(oam: &[u8], obj: usize) -> ObjAttrs
+    requires { ⌜ (length (now oam) ≡ oamSize) × (obj < 128) ⌝ }
+    ensures { λ s. ⌜ (s ≡ sprite (now (oam .entry)) obj) × Decoded s ⌝ }
+{
+    let addr = ATTRS_SIZE * obj;
+    ObjAttrs::from(
+        read_16(oam, addr),
+        read_16(oam, addr + 2),
+        read_16(oam, addr + 4),
+    )
+}
+
+// The colour of pixel (x, y) of a sprite.
+pub fn read_texel(
+    vram: &[u8],
+    palette: &[u8],
+    attrs: ObjAttrs,
+    reading: Reading,
+    mapping: ObjMapping,
+    x: usize,
+    y: usize,
+) -> Rgb15
+    requires { ⌜ (length (now vram) ≡ videoRamSize)
+        × (length (now palette) ≡ paletteRamSize)
+        × Decoded attrs
+        × (x < attrs .width)
+        × (y < attrs .height) ⌝ }
+    ensures { λ c.
+        ⌜ c .0 ≡ texel reading mapping (now (vram .entry)) (now (palette .entry)) attrs x y ⌝ }
+{
+    let format = attrs.format;
+    let tile_addr = attrs.tile_at(reading, mapping, x, y);
+    let bank = format.palette_bank(attrs.bank);
+    tile_color(
+        vram,
+        palette,
+        PALRAM_OFS_FG,
+        tile_addr,
+        x % 8,
+        y % 8,
+        format,
+        bank,
+    )
+}
+
+// A place of a side, counted from the other end where the bit is set.
+pub fn flip(set: bool, side: usize, at: usize) -> usize
+    requires { ⌜ at < side ⌝ }
+    ensures { λ r. ⌜ (r ≡ flip set side at) × (r < side) ⌝ }
+{
+    if set { side - 1 - at } else { at }
+}
+
+// Where sprite tiles start.
+pub fn obj_tiles_start(mode: u16) -> usize
+    ensures { λ r. ⌜ r ≡ tilesStart mode ⌝ }
+{
+    if mode < 3 {
+        VRAM_OBJ_TILES_START_TEXT
+    } else {
+        VRAM_OBJ_TILES_START_BITMAP
+    }
+}

@@ -1,0 +1,56 @@
+-- obj_texels::affine::affine_row meets its contract: a turn sets its column's colour, and the others stay transparent.
+-- Assumes nothing.
+use Prim.Native.Nat.{_-_}
+use native.Mathlib.Omega.{arith}
+use mathlib.Core.Path.{ap, _∙_}
+use lib.ListN.{length-replicate}
+use Rattle.rgb15.specs.Colour.{rgb, transparent}
+use Rattle.rows.proofs.Tabbed.{MappedPart, mapped-from, mapped-inside, mapped-to}
+use Rattle.obj_texels.specs.Row.{pointColor}
+use Rattle.obj_texels.proofs.Texels.{affineTexel-row}
+use Rattle.obj_texels.proofs.affine.affine_row.Statement.{statement}
+use Rattle.obj_texels.proofs.affine.affine_row.Tie as tie
+
+abbrev Inv-loop : tie.InvT-loop
+Inv-loop vram palette attrs reading mapping turn from to row₀ i₀ row i =
+    MappedPart (λ i _. rgb (pointColor reading mapping vram palette attrs turn i)) 128 from to (rgb 0) row₀ i row
+
+abbrev μ-loop : tie.MeasureT-loop
+μ-loop vram palette attrs reading mapping turn from to row₀ i₀ row i = to - i
+
+loop-holds : tie.Need-loop-holds Inv-loop μ-loop
+loop-holds c = mapped-from (length-replicate 128 (rgb transparent)) (omega arith)
+
+point-color-requires : tie.Need-point-color-requires Inv-loop μ-loop
+point-color-requires c κs =
+    let pre = c .before .before .before .before .pre in
+    (pre .0, pre .1, pre .2, pre .3, omega arith)
+
+loop-again : tie.Need-loop-again Inv-loop μ-loop
+loop-again c =
+    let turn = c .before in
+    mapped-inside (turn .before .loop .inv) (turn .loop-test .taken) (turn .before .before .before .before .pre .5)
+    (ap rgb (c .point-color .ensures))
+
+returns : tie.Need-returns Inv-loop μ-loop
+returns c =
+    let loop = c .before in
+    let at = loop .before .before .before .args in
+    mapped-to (loop .loop .inv) (c .loop-test .left)
+    ∙ affineTexel-row (at .reading) (at .mapping) (at .vram .now) (at .palette .now) (at .attrs) (at .turn) (at .from) (at .to) 128
+    (rgb 0)
+
+pub affine-row-spec : {M : Type 1} → statement M
+affine-row-spec =
+    tie.close
+    (tie.spec
+    Inv-loop
+    μ-loop
+    loop-holds
+    point-color-requires
+    (λ c. omega arith)
+    (λ c. omega arith)
+    (λ c. omega arith)
+    (λ c. omega arith)
+    loop-again
+    returns)

@@ -1,0 +1,56 @@
+-- An affine sprite's matrix and points as code has them, each larger by a bias (01, "Sprites"; GBATEK, "LCD OBJ - OAM
+-- Rotation/Scaling Parameters"). Only contracts that `obj` builds on cite this file. Assumes nothing.
+use Prim.Native.Nat.{ℕ, _+_, _-_, _*_, _/_, _^_, _≤_, _<_}
+use mathlib.Core.Path.{_≡_}
+use lib.IntN.{ℤ, pos, subℕ, _+ℤ_, _-ℤ_, _*ℤ_}
+use Rattle.obj_sprites.specs.Oam.{Matrix}
+use Rattle.obj_sprites.specs.Place.{boxWidth}
+use Rattle.obj_sprites.specs.Color.{turn}
+use Rattle.obj_texels.specs.declared.affine.AffineMatrix.{AffineMatrix}
+use Rattle.obj_texels.specs.declared.affine.Turn.{Turn}
+use Rattle.obj_sprites.specs.declared.attrs.ObjAttrs.{ObjAttrs}
+
+-- A matrix with each number 2^15 larger.
+pub record MatrixOf (m : Matrix) (r : AffineMatrix) : Type 0 where
+  pub pa-is : m .pa ≡ subℕ (r .pa) (2 ^ 15)
+  pub pb-is : m .pb ≡ subℕ (r .pb) (2 ^ 15)
+  pub pc-is : m .pc ≡ subℕ (r .pc) (2 ^ 15)
+  pub pd-is : m .pd ≡ subℕ (r .pd) (2 ^ 15)
+  pub pa< : r .pa < 2 ^ 16
+  pub pb< : r .pb < 2 ^ 16
+  pub pc< : r .pc < 2 ^ 16
+  pub pd< : r .pd < 2 ^ 16
+
+-- A coordinate of column i of the box, 2^16 larger: start is that of column 0, 256 to a pixel, and p the matrix's number.
+abbrev pub pointAt : ℕ → ℕ → ℕ → ℕ → ℕ
+pointAt start p i side = (start + p * i - 2 ^ 15 * i) / 256 + side / 2
+
+-- What start is, by the matrix's numbers p and q, the box's middle (m, k) and the line's row j in the box.
+pub record StartOf (p q m k j start : ℕ) : Type 0 where
+  pub sum : start + (p * m + 2 ^ 15 * j + q * k) ≡ 2 ^ 15 * m + q * j + 2 ^ 15 * k + 2 ^ 24
+  pub start≥ : 2 ^ 22 ≤ start
+  pub start≤ : start ≤ 2 ^ 26
+
+-- What code computes with has these ranges, so that no difference is below 0.
+pub record Ranged (t : Turn) : Type 0 where
+  pub x≥ : 2 ^ 22 ≤ t .x
+  pub x≤ : t .x ≤ 2 ^ 26
+  pub y≥ : 2 ^ 22 ≤ t .y
+  pub y≤ : t .y ≤ 2 ^ 26
+  pub pa< : t .pa < 2 ^ 16
+  pub pc< : t .pc < 2 ^ 16
+
+-- On a line that lies iy from the box's middle, each column of the box has its point. The numbers themselves: pa and pc are
+-- the matrix's, 2^15 larger, and x and y the sums of column 0 before they are rounded, 2^24 larger.
+pub record TurnOf (m : Matrix) (s : ObjAttrs) (iy : ℤ) (t : Turn) : Type 0 where
+  pub ranged : Ranged t
+  pub pa-is : m .pa ≡ subℕ (t .pa) (2 ^ 15)
+  pub pc-is : m .pc ≡ subℕ (t .pc) (2 ^ 15)
+  pub x-start : m .pa *ℤ (pos 0 -ℤ pos (boxWidth s / 2)) +ℤ m .pb *ℤ iy ≡ subℕ (t .x) (2 ^ 24)
+  pub y-start : m .pc *ℤ (pos 0 -ℤ pos (boxWidth s / 2)) +ℤ m .pd *ℤ iy ≡ subℕ (t .y) (2 ^ 24)
+  pub x-is : (i : ℕ) → i ≤ 127
+      → turn (m .pa) (m .pb) (pos i -ℤ pos (boxWidth s / 2)) iy (s .width)
+      ≡ subℕ (pointAt (t .x) (t .pa) i (s .width)) (2 ^ 16)
+  pub y-is : (i : ℕ) → i ≤ 127
+      → turn (m .pc) (m .pd) (pos i -ℤ pos (boxWidth s / 2)) iy (s .height)
+      ≡ subℕ (pointAt (t .y) (t .pc) i (s .height)) (2 ^ 16)

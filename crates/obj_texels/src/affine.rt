@@ -1,0 +1,184 @@
+// The points of affine sprites and their colours (render/obj.rs: `get_affine_matrix`, and the sums of `render_affine_obj`).
+// Every number is larger here by a bias, so that none is below 0.
+ghost use mathlib.Core.Path.{_≡_};
+ghost use mathlib.Core.Bool.{true};
+ghost use Prim.Native.Nat.{_+_, _/_, _^_, _≤_, _<_};
+ghost use lib.IntN.{pos, _-ℤ_};
+ghost use lib.ListN.{length};
+ghost use Rattle.rgb15.specs.Colour.{rgb};
+ghost use Rattle.memory.specs.Sizes.{videoRamSize, paletteRamSize, oamSize};
+ghost use Rattle.rows.specs.Tab.{tab};
+ghost use Rattle.obj_sprites.specs.Oam.{matrix};
+ghost use Rattle.obj_sprites.specs.Attrs.{Decoded};
+ghost use Rattle.obj_sprites.specs.Place.{boxHeight, below, onLine};
+ghost use Rattle.obj_texels.specs.Turn.{MatrixOf, StartOf, Ranged, TurnOf, pointAt};
+ghost use Rattle.obj_texels.specs.Row.{pointColor, affineTexel};
+use memory::read_16;
+use regs::ObjMapping;
+use regs::Reading;
+use rgb15::Rgb15;
+use signed::lift_half;
+use obj_sprites::ObjAttrs;
+use obj_sprites::is_inside;
+use obj_sprites::read_texel;
+
+const AFFINE_FILL: usize = 2 * 3;
+
+// What a matrix's numbers are larger by.
+const HALF_BIAS: usize = 0x8000;
+
+// What a point's coordinates are larger by, and what they are larger by 256 to a pixel.
+const POINT_BIAS: usize = 0x1_0000;
+
+const START_BIAS: usize = 0x100_0000;
+
+// A matrix.
+struct AffineMatrix {
+    pub pa: usize,
+    pub pb: usize,
+    pub pc: usize,
+    pub pd: usize,
+}
+
+fn get_affine_matrix(oam: &[u8], affine_index: usize) -> AffineMatrix
+    requires { ⌜ (length (now oam) ≡ oamSize) × («affine_index» ≤ 31) ⌝ }
+    ensures { λ m. ⌜ MatrixOf (matrix (now (oam .entry)) «affine_index») m ⌝ }
+{
+    let offset = AFFINE_FILL + 32 * affine_index;
+    AffineMatrix {
+        pa: lift_half(read_16(oam, offset)) as usize,
+        pb: lift_half(read_16(oam, offset + 8)) as usize,
+        pc: lift_half(read_16(oam, offset + 16)) as usize,
+        pd: lift_half(read_16(oam, offset + 24)) as usize,
+    }
+}
+
+// How the columns of a box turn on a line: where column 0 lies in the sprite, 256 to a pixel, and what a column adds.
+pub struct Turn {
+    pub x: usize,
+    pub y: usize,
+    pub pa: usize,
+    pub pc: usize,
+}
+
+// One coordinate of where column 0 lies: p and q are the matrix's numbers, half_width and half_height the box's middle,
+// and row the line's place in the box.
+fn turn_start(p: usize, q: usize, half_width: usize, half_height: usize, row: usize) -> usize
+    requires { ⌜ (p < 2 ^ 16)
+        × (q < 2 ^ 16)
+        × («half_width» ≤ 64)
+        × («half_height» ≤ 64)
+        × (row ≤ 127) ⌝ }
+    ensures { λ r. ⌜ StartOf p q «half_width» «half_height» row r ⌝ }
+{
+    let added = HALF_BIAS * half_width + q * row + HALF_BIAS * half_height + START_BIAS;
+    let taken = p * half_width + HALF_BIAS * row + q * half_height;
+    added - taken
+}
+
+pub fn turn_line(oam: &[u8], attrs: ObjAttrs, reading: Reading, line: usize) -> Turn
+    requires { ⌜ (length (now oam) ≡ oamSize)
+        × Decoded attrs
+        × (line < 160)
+        × (onLine reading attrs line ≡ true) ⌝ }
+    ensures { λ t.
+        ⌜ TurnOf (matrix (now (oam .entry)) (attrs .«affine_index»)) attrs
+        (below reading attrs line -ℤ pos (boxHeight attrs / 2)) t ⌝ }
+{
+    let matrix = get_affine_matrix(oam, attrs.affine_index);
+    let half_width = attrs.box_width() / 2;
+    let half_height = attrs.box_height() / 2;
+    let row = attrs.row(reading, line);
+    Turn {
+        x: turn_start(matrix.pa, matrix.pb, half_width, half_height, row),
+        y: turn_start(matrix.pc, matrix.pd, half_width, half_height, row),
+        pa: matrix.pa,
+        pc: matrix.pc,
+    }
+}
+
+// The pixel that a sum lies in: the sum counts from a sprite's middle, 256 to a pixel, and is rounded down.
+fn pixel_of(sum: usize, side: usize) -> usize
+    requires { ⌜ (sum < 2 ^ 27) × (side ≤ 64) ⌝ }
+    ensures { λ r. ⌜ r ≡ sum / 256 + side / 2 ⌝ }
+{
+    sum / 256 + side / 2
+}
+
+// A coordinate of column i of a box.
+fn point_at(start: usize, p: usize, i: usize, side: usize) -> usize
+    requires { ⌜ (2 ^ 22 ≤ start)
+        × (start ≤ 2 ^ 26)
+        × (p < 2 ^ 16)
+        × (i ≤ 127)
+        × (side ≤ 64) ⌝ }
+    ensures { λ r. ⌜ r ≡ pointAt start p i side ⌝ }
+{
+    pixel_of(start + p * i - HALF_BIAS * i, side)
+}
+
+// The colour of column i of an affine sprite's box: nothing is read where its point is outside.
+fn point_color(
+    vram: &[u8],
+    palette: &[u8],
+    attrs: ObjAttrs,
+    reading: Reading,
+    mapping: ObjMapping,
+    turn: Turn,
+    i: usize,
+) -> Rgb15
+    requires { ⌜ (length (now vram) ≡ videoRamSize)
+        × (length (now palette) ≡ paletteRamSize)
+        × Decoded attrs
+        × Ranged turn
+        × (i ≤ 127) ⌝ }
+    ensures { λ c.
+        ⌜ c .0 ≡ pointColor reading mapping (now (vram .entry)) (now (palette .entry)) attrs turn i ⌝ }
+{
+    let width = attrs.width;
+    let height = attrs.height;
+    let x = point_at(turn.x, turn.pa, i, width);
+    let y = point_at(turn.y, turn.pc, i, height);
+    if is_inside(x, POINT_BIAS, width) & is_inside(y, POINT_BIAS, height) {
+        let sprite_x = x - POINT_BIAS;
+        let sprite_y = y - POINT_BIAS;
+        read_texel(vram, palette, attrs, reading, mapping, sprite_x, sprite_y)
+    } else {
+        Rgb15::TRANSPARENT
+    }
+}
+
+// The colours of an affine sprite's box on a line, for its columns from `from` up to `to`; the others are transparent.
+pub fn affine_row(
+    vram: &[u8],
+    palette: &[u8],
+    attrs: ObjAttrs,
+    reading: Reading,
+    mapping: ObjMapping,
+    turn: Turn,
+    from: usize,
+    to: usize,
+) -> [Rgb15; 128]
+    requires { ⌜ (length (now vram) ≡ videoRamSize)
+        × (length (now palette) ≡ paletteRamSize)
+        × Decoded attrs
+        × Ranged turn
+        × (from ≤ to)
+        × (to ≤ 128) ⌝ }
+    ensures { λ r.
+        ⌜ r
+        ≡ tab
+        (λ i.
+        rgb
+        (affineTexel reading mapping (now (vram .entry)) (now (palette .entry)) attrs turn from to
+        i))
+        128 ⌝ }
+{
+    let mut row = [Rgb15::TRANSPARENT; 128];
+    let mut i = from;
+    while i < to {
+        row[i] = point_color(vram, palette, attrs, reading, mapping, turn, i);
+        i += 1;
+    }
+    row
+}

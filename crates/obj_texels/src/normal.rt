@@ -1,0 +1,133 @@
+// The colours of a normal sprite's row, by whole tiles.
+ghost use mathlib.Core.Path.{_≡_};
+ghost use Prim.Native.Nat.{_+_, _*_, _/_, _%_, _≤_, _<_};
+ghost use lib.ListN.{length};
+ghost use Rattle.rgb15.specs.Colour.{rgb};
+ghost use Rattle.memory.specs.Sizes.{videoRamSize, paletteRamSize};
+ghost use Rattle.memory.specs.Palette.{paletteColor};
+ghost use Rattle.memory.specs.Tiles.{colours, tilePixel};
+ghost use Rattle.tiles.specs.Flip.{flipped};
+ghost use Rattle.rows.specs.Tab.{tab};
+ghost use Rattle.obj_sprites.specs.Attrs.{Decoded};
+ghost use Rattle.obj_sprites.specs.Tiles.{texel};
+ghost use Rattle.obj_sprites.specs.Color.{flip};
+ghost use Rattle.obj_texels.specs.Row.{rowTexel};
+use memory::PixelFormat;
+use regs::ObjMapping;
+use regs::Reading;
+use rgb15::Rgb15;
+use obj_sprites::ObjAttrs;
+use obj_sprites::PALRAM_OFS_FG;
+use obj_sprites::flip;
+use tiles::flip_row;
+use tiles::tile_color;
+
+// The eight colours of a row of the tile at `tile_addr`, from right to left if it is flipped. Regular backgrounds have the like:
+// one function that both call would be inlined in neither, and a line would take a tenth more.
+fn tile_row(
+    vram: &[u8],
+    palette: &[u8],
+    tile_addr: usize,
+    y: usize,
+    format: PixelFormat,
+    bank: usize,
+    flip: bool,
+) -> [Rgb15; 8]
+    requires { ⌜ (length (now vram) ≡ videoRamSize)
+        × (length (now palette) ≡ paletteRamSize)
+        × («tile_addr» + 63 < videoRamSize)
+        × (y < 8)
+        × (16 * bank + colours format ≤ 256) ⌝ }
+    ensures { λ r.
+        ⌜ r
+        ≡ tab
+        (λ x.
+        rgb
+        (paletteColor (now (palette .entry)) 0x200
+        (tilePixel (now (vram .entry)) «tile_addr» (flipped flip x) y format) bank))
+        8 ⌝ }
+{
+    let row = [
+        tile_color(vram, palette, PALRAM_OFS_FG, tile_addr, 0, y, format, bank),
+        tile_color(vram, palette, PALRAM_OFS_FG, tile_addr, 1, y, format, bank),
+        tile_color(vram, palette, PALRAM_OFS_FG, tile_addr, 2, y, format, bank),
+        tile_color(vram, palette, PALRAM_OFS_FG, tile_addr, 3, y, format, bank),
+        tile_color(vram, palette, PALRAM_OFS_FG, tile_addr, 4, y, format, bank),
+        tile_color(vram, palette, PALRAM_OFS_FG, tile_addr, 5, y, format, bank),
+        tile_color(vram, palette, PALRAM_OFS_FG, tile_addr, 6, y, format, bank),
+        tile_color(vram, palette, PALRAM_OFS_FG, tile_addr, 7, y, format, bank),
+    ];
+    flip_row(row, flip)
+}
+
+// The eight colours of row y of a normal sprite's tile t, counted from the left as shown.
+fn shown_tile(
+    vram: &[u8],
+    palette: &[u8],
+    attrs: ObjAttrs,
+    reading: Reading,
+    mapping: ObjMapping,
+    y: usize,
+    t: usize,
+) -> [Rgb15; 8]
+    requires { ⌜ (length (now vram) ≡ videoRamSize)
+        × (length (now palette) ≡ paletteRamSize)
+        × Decoded attrs
+        × (attrs .width % 8 ≡ 0)
+        × (y < attrs .height)
+        × (t < attrs .width / 8) ⌝ }
+    ensures { λ r.
+        ⌜ r
+        ≡ tab
+        (λ k.
+        rgb
+        (texel reading mapping (now (vram .entry)) (now (palette .entry)) attrs
+        (flip (attrs .«h_flip») (attrs .width) (8 * t + k)) y))
+        8 ⌝ }
+{
+    let format = attrs.format;
+    let bank = format.palette_bank(attrs.bank);
+    let tile = flip(attrs.h_flip, attrs.width / 8, t);
+    let tile_addr = attrs.tile_at(reading, mapping, 8 * tile, y);
+    tile_row(vram, palette, tile_addr, y % 8, format, bank, attrs.h_flip)
+}
+
+// The colours of row y of a normal sprite, column by column as shown. It goes by whole tiles, which is twice as quick as a
+// texel for each column; columns past the sprite's width are transparent.
+pub fn texel_row(
+    vram: &[u8],
+    palette: &[u8],
+    attrs: ObjAttrs,
+    reading: Reading,
+    mapping: ObjMapping,
+    y: usize,
+) -> [Rgb15; 128]
+    requires { ⌜ (length (now vram) ≡ videoRamSize)
+        × (length (now palette) ≡ paletteRamSize)
+        × Decoded attrs
+        × (attrs .width % 8 ≡ 0)
+        × (y < attrs .height) ⌝ }
+    ensures { λ r.
+        ⌜ r
+        ≡ tab
+        (λ x. rgb (rowTexel reading mapping (now (vram .entry)) (now (palette .entry)) attrs y x))
+        128 ⌝ }
+{
+    let tiles = attrs.width / 8;
+    let mut row = [Rgb15::TRANSPARENT; 128];
+    let mut t: usize = 0;
+    while t < tiles {
+        let eight = shown_tile(vram, palette, attrs, reading, mapping, y, t);
+        let i = 8 * t;
+        row[i] = eight[0];
+        row[i + 1] = eight[1];
+        row[i + 2] = eight[2];
+        row[i + 3] = eight[3];
+        row[i + 4] = eight[4];
+        row[i + 5] = eight[5];
+        row[i + 6] = eight[6];
+        row[i + 7] = eight[7];
+        t += 1;
+    }
+    row
+}

@@ -1,3 +1,0 @@
--- The laws of points, for the proofs of this crate and of those above it, which reach them as Rattle.points.proofs.NAME.
--- No contract cites them. Assumes nothing.
-pub mod Points

@@ -1,0 +1,16 @@
+-- sfx_effects::is_blended meets its contract: its test is that of isBlended.
+-- Assumes nothing.
+use borrow.Author.Needs.{needs}
+use Rattle.sfx_effects.specs.Words.{isBlended}
+use Rattle.sfx_effects.proofs.is_blended.Statement.{statement}
+use Rattle.sfx_effects.proofs.is_blended.Tie as tie
+
+returns : tie.Need-returns
+unfolding isBlended
+returns c = search needs
+
+pub is-blended-spec : {M : Type 1} → statement M
+is-blended-spec =
+    tie.close
+    (tie.spec
+    returns)

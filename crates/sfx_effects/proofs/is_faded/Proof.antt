@@ -1,0 +1,16 @@
+-- sfx_effects::is_faded meets its contract: its test is that of isFaded.
+-- Assumes nothing.
+use borrow.Author.Needs.{needs}
+use Rattle.sfx_effects.specs.Words.{isFaded}
+use Rattle.sfx_effects.proofs.is_faded.Statement.{statement}
+use Rattle.sfx_effects.proofs.is_faded.Tie as tie
+
+returns : tie.Need-returns
+unfolding isFaded
+returns c = search needs
+
+pub is-faded-spec : {M : Type 1} → statement M
+is-faded-spec =
+    tie.close
+    (tie.spec
+    returns)

@@ -1,0 +1,146 @@
+-- What code computes with in place of layers and regions: halfwords, which a loop over columns chooses between without
+-- branches. Only contracts that `sfx` builds on cite this file. Assumes nothing.
+use Prim.Native.Nat.{ℕ, _+_, _*_, _/_, _%_}
+use mathlib.Core.Path.{_≡_}
+use mathlib.Core.Bool.{Bool, false, cond, not, _&&_}
+use mathlib.Core.List.{List}
+use lib.Dec.{leb, ltb}
+use lib.ListN.{getD}
+use Rattle.bits.specs.Bits.{bit}
+use Rattle.rgb15.specs.Colour.{isTransparent}
+use Rattle.memory.specs.Palette.{backdrop}
+use Rattle.regs.specs.Registers.{dispcnt, bgcnt, bldcnt}
+use Rattle.regs.specs.Display.{enableObj}
+use Rattle.regs.specs.Background.{priority}
+use Rattle.regs_window.specs.Windows.{permits}
+use Rattle.regs_blend.specs.Layers.{backgroundLayer, targets}
+use Rattle.regs_blend.specs.Blend.{target1, target2, blendMode}
+use Rattle.regs_blend.specs.declared.BlendMode.{BlendMode}
+use Rattle.regs_blend.specs.declared.BlendMode.the-variants.{BldNone, BldAlpha, BldWhite, BldBlack}
+use Rattle.regs_blend.specs.declared.layer.RenderLayerKind.{RenderLayerKind}
+use Rattle.regs_blend.specs.declared.layer.RenderLayerKind.the-variants.{Objects, Backdrop}
+use Rattle.regs.specs.declared.reading.Reading.{Reading}
+use Rattle.obj_entries.specs.declared.Entry.{Entry}
+use Rattle.sfx_regions.specs.Region.{permitted}
+use Rattle.sfx_regions.specs.Row.{regionAt}
+use Rattle.sfx_layers.specs.declared.layer.LayerPair.{LayerPair}
+use Rattle.sfx_layers.specs.declared.layer.LineLayers.{LineLayers}
+
+-- A truth value as a bit.
+abbrev pub bitOf : Bool → ℕ
+bitOf t = cond t 1 0
+
+-- An effect's number: 0 none, 1 a blend, 2 white, 3 black.
+abbrev pub modeNumber : BlendMode → ℕ
+modeNumber BldNone = 0
+modeNumber BldAlpha = 1
+modeNumber BldWhite = 2
+modeNumber BldBlack = 3
+
+-- ---- layers
+
+-- All of a layer but its colour: bit 0 first target, bit 1 second target, bit 2 semi-transparent object, then the priority.
+unfoldable pub layerTag : ℕ → ℕ → RenderLayerKind → ℕ → ℕ
+layerTag first second kind priority = bitOf (targets first kind) + 2 * bitOf (targets second kind) + 8 * priority
+
+-- An object's tag, by the one that all objects share.
+abbrev pub objectTag : ℕ → Entry → ℕ
+objectTag tag e = tag + 4 * (e .marks % 2) + 8 * e .priority
+
+-- A tag's priority.
+abbrev pub tagPriority : ℕ → ℕ
+tagPriority tag = tag / 8
+
+-- Whether a pixel is permitted and opaque.
+abbrev pub shows : Bool → ℕ → Bool
+shows permitted color = permitted && not (isTransparent color)
+
+-- Whether an object's pixel shows and goes over a layer, by the tags of both.
+abbrev pub goesOver : Bool → ℕ → ℕ → ℕ → Bool
+goesOver permitted tag color behind = shows permitted color && leb (tagPriority tag) (tagPriority behind)
+
+-- A background's pixel over what is behind it, if it shows: the top that it covers becomes the bottom.
+unfoldable pub putBackground : LayerPair → Bool → ℕ → ℕ → LayerPair
+putBackground behind permitted tag color =
+    let over = shows permitted color in
+    record {
+      top = cond over color (behind .top);
+      «top_tag» = cond over tag (behind .«top_tag»);
+      bottom = cond over (behind .top) (behind .bottom);
+      «bottom_tag» = cond over (behind .«top_tag») (behind .«bottom_tag»);
+    }
+
+-- An object's pixel is on top if it goes over the top, else second if it goes over the bottom.
+unfoldable pub putObject : LayerPair → Bool → ℕ → ℕ → LayerPair
+putObject behind permitted tag color =
+    let first = goesOver permitted tag color (behind .«top_tag») in
+    let second = goesOver permitted tag color (behind .«bottom_tag») in
+    record {
+      top = cond first color (behind .top);
+      «top_tag» = cond first tag (behind .«top_tag»);
+      bottom = cond first (behind .top) (cond second color (behind .bottom));
+      «bottom_tag» = cond first (behind .«top_tag») (cond second tag (behind .«bottom_tag»));
+    }
+
+-- The tag of the background in a place; 0 if it has none.
+unfoldable pub placeTag : List ℕ → ℕ → ℕ → ℕ → ℕ
+placeTag registers first second place =
+    cond (ltb place 4) (layerTag first second (backgroundLayer place) (priority (bgcnt registers place))) 0
+
+-- A line's layers are those of its palette, its registers and its places.
+pub record LineLayersOf (palette registers at : List ℕ) (l : LineLayers) : Type 0 where
+  pub place0-is : l .place0 ≡ placeTag registers (target1 (bldcnt registers)) (target2 (bldcnt registers)) (getD at 0 0)
+  pub place1-is : l .place1 ≡ placeTag registers (target1 (bldcnt registers)) (target2 (bldcnt registers)) (getD at 1 0)
+  pub place2-is : l .place2 ≡ placeTag registers (target1 (bldcnt registers)) (target2 (bldcnt registers)) (getD at 2 0)
+  pub place3-is : l .place3 ≡ placeTag registers (target1 (bldcnt registers)) (target2 (bldcnt registers)) (getD at 3 0)
+  pub object-is : l .object ≡ layerTag (target1 (bldcnt registers)) (target2 (bldcnt registers)) Objects 0
+  pub backdrop-is : l .backdrop ≡ backdrop palette
+  pub backdrop-tag-is : l .«backdrop_tag» ≡ layerTag (target1 (bldcnt registers)) (target2 (bldcnt registers)) Backdrop 4
+  pub mode-is : l .mode ≡ modeNumber (blendMode (bldcnt registers))
+
+-- No tag of a background or the backdrop has the mark of a semi-transparent object.
+pub record Unmarked (l : LineLayers) : Type 0 where
+  pub place0-plain : bit 2 (l .place0) ≡ false
+  pub place1-plain : bit 2 (l .place1) ≡ false
+  pub place2-plain : bit 2 (l .place2) ≡ false
+  pub place3-plain : bit 2 (l .place3) ≡ false
+  pub backdrop-plain : bit 2 (l .«backdrop_tag») ≡ false
+
+-- The layers that the backgrounds of a column make, by what its region permits and the colour of each place.
+unfoldable pub backgroundPair : LineLayers → ℕ → ℕ → ℕ → ℕ → ℕ → LayerPair
+backgroundPair line region a b c d =
+    let back : LayerPair =
+    record {
+      top = line .backdrop;
+      «top_tag» = line .«backdrop_tag»;
+      bottom = line .backdrop;
+      «bottom_tag» = line .«backdrop_tag»;
+    } in
+    putBackground
+    (putBackground
+    (putBackground
+    (putBackground back (bit 3 region) (line .place3) d)
+    (bit 2 region) (line .place2) c)
+    (bit 1 region) (line .place1) b)
+    (bit 0 region) (line .place0) a
+
+-- ---- regions
+
+-- Whether flags permit the background of a place, if it has one.
+abbrev pub permitsPlace : ℕ → ℕ → Bool
+permitsPlace flags place = cond (ltb place 4) (permits flags place) false
+
+-- What a region permits, by its flags: bits 0 to 3 the background of each place, bit 4 objects, bit 5 effects.
+unfoldable pub regionWord : Bool → List ℕ → ℕ → ℕ
+regionWord objects at flags =
+    bitOf (permitsPlace flags (getD at 0 0))
+    + 2 * bitOf (permitsPlace flags (getD at 1 0))
+    + 4 * bitOf (permitsPlace flags (getD at 2 0))
+    + 8 * bitOf (permitsPlace flags (getD at 3 0))
+    + 16 * bitOf (permits flags 4 && objects)
+    + 32 * bitOf (permits flags 5)
+
+-- The word of a column's region.
+abbrev pub columnRegion : Reading → List ℕ → List ℕ → List ℕ → ℕ → ℕ → ℕ
+columnRegion reading registers entries at line column =
+    regionWord (enableObj (dispcnt registers)) at (permitted registers (regionAt reading registers entries column line))

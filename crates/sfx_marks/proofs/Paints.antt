@@ -1,0 +1,203 @@
+-- Laws of a row with columns given to another row, so that they have its words. No contract cites this file. Assumes nothing.
+use Prim.Native.Nat.{ℕ, suc, _+_, _-_, _*_, _/_, _%_, _^_, _≤_, _<_}
+use native.Mathlib.Decide.{decLt}
+use native.Mathlib.Omega.{arith}
+use mathlib.Core.Path.{_≡_, refl, sym, ap, ap₂, _∙_}
+use mathlib.Core.Bool.{Bool, true, false, cond, _&&_, _||_, and-false, or-false}
+use mathlib.Core.List.{List}
+use lib.Dec.{leb, ltb, eqb}
+use lib.ListN.{length, getD, set}
+use lib.Pow.{shr-shr, field, mod-mod-pow}
+use borrow.Author.Tests.{lt-ltb, le-leb}
+use Rattle.rows.specs.Below.{between}
+use Rattle.rows.specs.Cells.{only}
+use Rattle.rows.specs.Marks.{marked}
+use Rattle.rows.specs.Tab.{tab, mapTab}
+use Rattle.rows.proofs.Below.{between-inside, between-before, between-past}
+use Rattle.rows.proofs.Bits.{bitOf, bitOf-none}
+use Rattle.rows.proofs.Tab.{length-tab, getD-tab, getD-of-tab, tab-cong, tab-ext}
+use Rattle.rows.proofs.Tabbed.{mapped-from, mapped-inside, mapped-to}
+use Rattle.sfx_marks.specs.Marks.{markedIn, givenRow}
+use Rattle.sfx_marks.proofs.Marks.{marked-word}
+
+-- ---- a row with columns of another
+
+cond-or : (s t : Bool) (a b : ℕ) → cond s a (cond t a b) ≡ cond (s || t) a b
+cond-or true t a b = refl
+cond-or false t a b = refl
+
+cond-and : (s t : Bool) (a b : ℕ) → cond s (cond t a b) b ≡ cond (s && t) a b
+cond-and true t a b = refl
+cond-and false t a b = refl
+
+module _ (other : List ℕ) where
+  -- No column is given.
+  pub given-none : (test : ℕ → Bool) {row : List ℕ} → length row ≡ 240 → ((k : ℕ) → test k ≡ false)
+      → row ≡ givenRow test other row
+  unfolding givenRow mapTab
+  given-none test {row} size none = tab-ext _ 240 0 row size (λ k lt. rw (none k))
+
+  pub length-given : (test : ℕ → Bool) (row : List ℕ) {l : List ℕ} → l ≡ givenRow test other row → length l ≡ 240
+  unfolding givenRow mapTab
+  length-given test row e = ap length e ∙ length-tab _ 240
+
+  given-cong : (p q : ℕ → Bool) (row : List ℕ) → ((k : ℕ) → k < 240 → p k ≡ q k) → givenRow p other row ≡ givenRow q other row
+  unfolding givenRow mapTab
+  given-cong p q row same = tab-cong _ _ 240 (λ k lt. rw (same k lt))
+
+  given-after : (p q : ℕ → Bool) (row : List ℕ)
+      → givenRow p other (givenRow q other row) ≡ givenRow (λ k. p k || q k) other row
+  unfolding givenRow mapTab
+  given-after p q row =
+      tab-cong _ _ 240 (λ k lt.
+      ap (cond (p k) (getD other k 0)) (getD-tab _ 240 k 0 lt) ∙ cond-or (p k) (q k) (getD other k 0) (getD row k 0))
+
+-- The row, an element at a time.
+pub tab-given : (test : ℕ → Bool) (f g : ℕ → ℕ) {other row : List ℕ} → other ≡ tab f 240 → row ≡ tab g 240
+    → givenRow test other row ≡ tab (λ k. cond (test k) (f k) (g k)) 240
+unfolding givenRow mapTab
+tab-given test f g d e =
+    tab-cong _ _ 240 (λ k lt. ap₂ (cond (test k)) (getD-of-tab f 240 k 0 d lt) (getD-of-tab g 240 k 0 e lt))
+
+-- ---- a part of the columns after another
+
+-- Only the edge that k may lie past matters.
+between-right : (a b c k : ℕ) → k < b → b ≤ c → between a b k ≡ between a c k
+unfolding between
+between-right a b c k h u = ap (λ (s : Bool). leb a k && s) (lt-ltb k b h ∙ sym (lt-ltb k c (omega arith)))
+
+between-left : (a b c k : ℕ) → a ≤ b → b ≤ k → between b c k ≡ between a c k
+unfolding between
+between-left a b c k h u = ap (λ (s : Bool). s && ltb k c) (le-leb b k u ∙ sym (le-leb a k (omega arith)))
+
+module _ (t u : ℕ → Bool) (a b c : ℕ) (near : a ≤ b) (far : b ≤ c) (same : (k : ℕ) → b ≤ k → k < c → u k ≡ t k) where
+  between-after : (k : ℕ) → Dec (k < b) → Dec (k < c)
+      → ((between b c k && u k) || (between a b k && t k)) ≡ (between a c k && t k)
+  between-after k (yes h) l =
+      ap₂ (λ (x y : Bool). (x && u k) || (y && t k)) (between-before b c k h) (between-right a b c k h far)
+  between-after k (no h) (yes l) =
+      let past : b ≤ k = omega arith in
+      ap₂ (λ (x y : Bool). x || (y && t k))
+      (ap₂ _&&_ (between-left a b c k near past) (same k past l))
+      (between-past a b k past)
+      ∙ or-false (between a c k && t k)
+  between-after k (no h) (no l) =
+      rw (between-past b c k (omega arith), between-past a b k (omega arith), between-past a c k (omega arith)) refl
+
+  pub given-more : (other row₀ : List ℕ) {row row' : List ℕ}
+      → row ≡ givenRow (λ k. between a b k && t k) other row₀
+      → row' ≡ givenRow (λ k. between b c k && u k) other row
+      → row' ≡ givenRow (λ k. between a c k && t k) other row₀
+  given-more other row₀ e f =
+      f
+      ∙ ap (givenRow (λ k. between b c k && u k) other) e
+      ∙ given-after other _ _ row₀
+      ∙ given-cong other _ _ row₀ (λ k lt. between-after k (decLt k b) (decLt k c))
+
+-- ---- the columns of one word
+
+-- A store gives one column, by the lowest mark that is left.
+pub given-one : (other row : List ℕ) (left x : ℕ) {word a : ℕ} → length row ≡ 240 → x < 240 → word ≡ getD other x 0
+    → a ≡ cond (eqb (left % 2) 1) word (getD row x 0)
+    → set row x a ≡ givenRow (markedIn (left % 2) x (x + 1)) other row
+unfolding givenRow mapTab
+given-one other row left x size h word-is e =
+    let none : x - x ≡ 0 = omega arith in
+    let lowest : left % 2 / 2 ^ (x - x) % 2 ≡ left % 2 = rw none (omega arith) in
+    mapped-to
+    (mapped-inside
+    (mapped-from {f = only (λ k. eqb (left % 2 / 2 ^ (k - x) % 2) 1) (λ k _. getD other k 0)} {d = 0} {l = row} size (omega arith))
+    (omega arith) (omega arith) (rw (lowest, sym word-is) e))
+    (omega arith)
+    ∙ tab-cong _ _ 240 (λ k lt. cond-and (between x (x + 1) k) _ _ _)
+
+-- A word without marks marks none.
+pub markedIn-none : (first end k : ℕ) → markedIn 0 first end k ≡ false
+unfolding bitOf
+markedIn-none first end k =
+    ap (λ (b : ℕ). between first end k && eqb b 1) (bitOf-none (k - first)) ∙ and-false (between first end k)
+
+between-none : (a k : ℕ) → Dec (k < a) → between a a k ≡ false
+between-none a k (yes h) = between-before a a k h
+between-none a k (no h) = between-past a a k (omega arith)
+
+-- A bit of the n lowest.
+bit-mod : (n word j : ℕ) → j < n → word % 2 ^ n / 2 ^ j % 2 ≡ word / 2 ^ j % 2
+bit-mod n word j h =
+    let whole : n - suc j + 1 + j ≡ n = omega arith in
+    ap (λ (m : ℕ). m % 2) (rw whole at (field word (n - suc j + 1) j)) ∙ mod-mod-pow (word / 2 ^ j) (n - suc j) 1
+
+-- Of the columns from first on and before end those before x are passed, and left has the marks of the others.
+pub record Painted (other : List ℕ) (marks first end : ℕ) (row₀ row : List ℕ) (left x : ℕ) : Type 0 where
+  pub from : first ≤ x
+  pub bound : x ≤ end
+  pub left-is : left ≡ marks / 2 ^ (x - first)
+  pub given : row ≡ givenRow (markedIn marks first x) other row₀
+
+module _ (other : List ℕ) (marks first end : ℕ) where
+  pub painted-none : {row : List ℕ} → length row ≡ 240 → first ≤ end → Painted other marks first end row row marks first
+  painted-none size h =
+      let d : first - first ≡ 0 = omega arith in
+      record {
+        from = omega arith;
+        bound = h;
+        left-is = rw d (omega arith);
+        given = given-none other (markedIn marks first first) size (λ k. rw (between-none first k (decLt k first)));
+      }
+
+  -- A turn, which gave n columns by the lowest marks that were left.
+  pub painted-more : (row₀ : List ℕ) (n : ℕ) {row row' : List ℕ} {left x : ℕ} → Painted other marks first end row₀ row left x
+      → x + n ≤ end
+      → row' ≡ givenRow (markedIn (left % 2 ^ n) x (x + n)) other row
+      → Painted other marks first end row₀ row' (left / 2 ^ n) (x + n)
+  painted-more row₀ n {row} {row'} {left} {x} p h e =
+      let from = p .from in
+      let past : x - first + n ≡ x + n - first = omega arith in
+      record {
+        from = omega arith;
+        bound = h;
+        left-is = ap (λ (w : ℕ). w / 2 ^ n) (p .left-is) ∙ shr-shr marks (x - first) n ∙ ap (λ (m : ℕ). marks / 2 ^ m) past;
+        given = given-more _ _ first x (x + n) from (omega arith) same other row₀ (p .given) e;
+      }
+    where
+      same : (k : ℕ) → x ≤ k → k < x + n → eqb (left % 2 ^ n / 2 ^ (k - x) % 2) 1 ≡ eqb (marks / 2 ^ (k - first) % 2) 1
+      same k near far =
+          let from = p .from in
+          let place : x - first + (k - x) ≡ k - first = omega arith in
+          ap (λ (m : ℕ). eqb m 1)
+          (bit-mod n left (k - x) (omega arith)
+          ∙ ap (λ (w : ℕ). w / 2 ^ (k - x) % 2) (p .left-is)
+          ∙ ap (λ (w : ℕ). w % 2) (shr-shr marks (x - first) (k - x) ∙ ap (λ (m : ℕ). marks / 2 ^ m) place))
+
+  pub painted-all : (row₀ : List ℕ) {row : List ℕ} {left x : ℕ} → Painted other marks first end row₀ row left x → end ≤ x
+      → row ≡ givenRow (markedIn marks first end) other row₀
+  painted-all row₀ {row} {left} {x} p h =
+      let e : x ≡ end = omega (arith, p .bound) in
+      p .given ∙ ap (λ (n : ℕ). givenRow (markedIn marks first n) other row₀) e
+
+-- ---- the columns of four words
+
+module _ (other ws row₀ : List ℕ) where
+  -- The marked columns before end are given.
+  abbrev pub GivenTo : ℕ → List ℕ → Type 0
+  GivenTo end row = row ≡ givenRow (λ k. between 0 end k && marked ws k) other row₀
+
+  pub givenTo-none : length row₀ ≡ 240 → GivenTo 0 row₀
+  givenTo-none size = given-none other _ size (λ k. ap (λ (b : Bool). b && marked ws k) (between-none 0 k (decLt k 0)))
+
+  -- One word more.
+  pub givenTo-more : (i end : ℕ) {row row' : List ℕ} → 64 * i ≤ end → end ≤ 64 * i + 64 → GivenTo (64 * i) row
+      → row' ≡ givenRow (markedIn (getD ws i 0) (64 * i) end) other row
+      → GivenTo end row'
+  unfolding bitOf
+  givenTo-more i end h u = given-more (marked ws) _ 0 (64 * i) end (omega arith) h same other row₀
+    where
+      same : (k : ℕ) → 64 * i ≤ k → k < end → eqb (getD ws i 0 / 2 ^ (k - 64 * i) % 2) 1 ≡ marked ws k
+      same k near far =
+          let place : 64 * i + (k - 64 * i) ≡ k = omega arith in
+          sym (marked-word ws i (k - 64 * i) (omega arith)) ∙ ap (marked ws) place
+
+  pub givenTo-all : {row : List ℕ} → GivenTo 240 row → row ≡ givenRow (marked ws) other row₀
+  givenTo-all e =
+      e
+      ∙ given-cong other _ _ row₀ (λ k lt. ap (λ (b : Bool). b && marked ws k) (between-inside 0 240 k (omega arith) lt))

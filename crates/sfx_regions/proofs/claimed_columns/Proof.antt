@@ -1,0 +1,24 @@
+-- sfx_regions::claimed_columns meets its contract: the test is that of the window's rows, and columns between its edges are those within them.
+-- Assumes nothing.
+use borrow.Author.Needs.{needs}
+use Rattle.sfx_regions.proofs.Spans.{claimed-some, claimed-none}
+use Rattle.sfx_regions.proofs.claimed_columns.Statement.{statement}
+use Rattle.sfx_regions.proofs.claimed_columns.Tie as tie
+
+returns : tie.Need-returns
+returns c =
+    let rows = c .before in
+    let right = rows .before in
+    let left = right .before in
+    claimed-some (left .before .args .on) _ _ (left .left .ensures) (right .right .ensures) (rows .contains-y .ensures) (c .if1 .taken)
+
+returns-2 : tie.Need-returns-2
+returns-2 c =
+    let rows = c .before in
+    let right = rows .before in
+    let left = right .before in
+    claimed-none (left .before .args .on) _ _ (left .left .ensures) (right .right .ensures) (rows .contains-y .ensures) (c .if1 .left)
+
+pub claimed-columns-spec : {M : Type 1} → statement M
+claimed-columns-spec =
+    tie.close (tie.spec (search needs) (search needs) (search needs) returns returns-2)

@@ -1,0 +1,80 @@
+-- The examples that document 01 marks P, as one table under a single statement (01, "Checked examples"). Assumes nothing.
+use Prim.Native.Nat.{ℕ}
+use mathlib.Core.Path.{_≡_, refl}
+use mathlib.Core.Bool.{true, false, cond}
+use mathlib.Core.List.{List, [], _∷_}
+use lib.Dec.{eqb, leb}
+use lib.IntN.{pos, negℤ}
+use Rattle.rows.specs.Tab.{tab}
+use Rattle.rgb15.specs.Colour.{red, black, white, toRgb24, isTransparent, blendChannel, blendWith}
+use Rattle.memory.specs.Memory.{half}
+use Rattle.memory.specs.Sizes.{registersSize}
+use Rattle.regs.specs.Registers.{BLDALPHA}
+use Rattle.regs.specs.declared.reading.Reading.the-variants.{R, H}
+use Rattle.regs.specs.Reading.{counted}
+use Rattle.regs_window.specs.Windows.{farEdge, inColumns}
+use Rattle.bg_regular.specs.Regular.{regularX, regularY, mapBlock, mapOffset}
+use Rattle.bg.specs.Bitmap.{bitmapPixel}
+use Rattle.obj_sprites.specs.Place.{xOf, yOf}
+use Rattle.sfx_effects.specs.Effects.{alpha, fade}
+
+-- Registers of zeros but for EVA, which is 31.
+abbrev eva31 : List ℕ
+eva31 = tab (λ at. cond (eqb at BLDALPHA) 31 0) registersSize
+
+-- Every example, in the document's order.
+pub record Table : Type 0 where
+  -- Y 159, 160, 255 give 159, -96, -1. X 239, 240, 511 give 239, -272, -1.
+  pub y-last : yOf 159 ≡ pos 159
+  pub y-first-above : yOf 160 ≡ negℤ (pos 96)
+  pub y-just-above : yOf 255 ≡ negℤ (pos 1)
+  pub x-last : xOf 239 ≡ pos 239
+  pub x-first-before : xOf 240 ≡ negℤ (pos 272)
+  pub x-just-before : xOf 511 ≡ negℤ (pos 1)
+  -- Channels 10 and 20, weights 8 and 8: 15. 31 and 31, 16 and 16: 31.
+  pub halves : blendChannel 10 20 8 8 ≡ 15
+  pub capped : blendChannel 31 31 16 16 ≡ 31
+  -- Black, evy 1, channel 31: 29. White, evy 1, channel 0: 1.
+  pub blacker : red (fade 1 31 black) ≡ 29
+  pub whiter : red (fade 1 0 white) ≡ 1
+  -- Channel 20, EVA 31, EVB 0, other 0: R 31, H 20.
+  pub weights-R : red (alpha R eva31 20 0) ≡ 31
+  pub weights-H : red (alpha H eva31 20 0) ≡ 20
+  -- 512x512, both offsets 255: column 1, line 1 is block 3, map offset 0; column 0, line 0 is block 0, offset 2,046.
+  pub block-far : mapBlock 512 (regularX 0xc000 255 1) (regularY 0xc000 255 1) ≡ 3
+  pub offset-far : mapOffset (regularX 0xc000 255 1) (regularY 0xc000 255 1) ≡ 0
+  pub block-near : mapBlock 512 (regularX 0xc000 255 0) (regularY 0xc000 255 0) ≡ 0
+  pub offset-near : mapOffset (regularX 0xc000 255 0) (regularY 0xc000 255 0) ≡ 2046
+  -- Mode 3 word 0x8000 is transparent; 0x8001 shows 0x080000.
+  pub word-transparent : isTransparent (bitmapPixel (0x00 ∷ 0x80 ∷ []) [] 3 0 240 0 0) ≡ true
+  pub word-shown : toRgb24 (bitmapPixel (0x01 ∷ 0x80 ∷ []) [] 3 0 240 0 0) ≡ 0x080000
+  -- Window edges (10, 5): columns 10 to 239; (10, 10) and (250, 5): none.
+  pub crossed : tab (inColumns 10 5) 240 ≡ tab (leb 10) 240
+  pub equal : tab (inColumns 10 10) 240 ≡ tab (λ _. false) 240
+  pub beyond : tab (inColumns 250 5) 240 ≡ tab (λ _. false) 240
+
+pub table : Table
+unfolding yOf xOf blendChannel blendWith alpha fade counted farEdge tab half bitmapPixel
+table = record {
+  y-last = refl;
+  y-first-above = refl;
+  y-just-above = refl;
+  x-last = refl;
+  x-first-before = refl;
+  x-just-before = refl;
+  halves = refl;
+  capped = refl;
+  blacker = refl;
+  whiter = refl;
+  weights-R = refl;
+  weights-H = refl;
+  block-far = refl;
+  offset-far = refl;
+  block-near = refl;
+  offset-near = refl;
+  word-transparent = refl;
+  word-shown = refl;
+  crossed = refl;
+  equal = refl;
+  beyond = refl;
+}
