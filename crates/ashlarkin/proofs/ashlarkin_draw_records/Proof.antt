@@ -862,10 +862,10 @@ ashlarkin-draw-records-spec 𝓤 H 𝓜 𝓖 𝓡 =
     (tables 𝓤 H 𝓜 𝓡 code.env .C) (tables 𝓤 H 𝓜 𝓡 code.env .Λ) #self code.function (code.unfolded 𝓤 H 𝓜 𝓡)
     (meets 𝓤 H (𝓖 .A) (givenOf 𝓤 H 𝓜 𝓖) (𝓜 .mem) (𝓡 .run) (tablesOf 𝓤 H 𝓜 (tables 𝓤 H 𝓜 𝓡 code.env))
     (cited 𝓤 H (Judge 𝓤 H (𝓖 .A) (𝓜 .mem) (𝓡 .run)) 𝓜 𝓡 code.env #judge-row judge-def.routine
-    code.calls-drawn·judge-row (judge-thm.met 𝓤 H 𝓜 𝓖 𝓡))
+    code.calls-gpu-draw-records·judge-row (judge-thm.met 𝓤 H 𝓜 𝓖 𝓡))
     (cited 𝓤 H (Load 𝓤 H (𝓖 .A) (𝓜 .mem) (𝓡 .run)) 𝓜 𝓡 code.env #load-row load-def.routine
-    code.calls-records·load-row (load-thm.met 𝓤 H 𝓜 𝓖 𝓡))
+    code.calls-gpu-records·load-row (load-thm.met 𝓤 H 𝓜 𝓖 𝓡))
     (cited 𝓤 H (Draw 𝓤 H (𝓖 .A) (𝓜 .mem) (𝓡 .run)) 𝓜 𝓡 code.env #draw-row draw-def.routine
-    code.calls-drawn·draw-row (draw-thm.met 𝓤 H 𝓜 𝓖 𝓡))
+    code.calls-gpu-draw-records·draw-row (draw-thm.met 𝓤 H 𝓜 𝓖 𝓡))
     (cited 𝓤 H (Store 𝓤 H (𝓖 .A) (𝓜 .mem) (𝓡 .run)) 𝓜 𝓡 code.env #store-row store-def.routine
-    code.calls-records·store-row (store-thm.met 𝓤 H 𝓜 𝓖 𝓡)))
+    code.calls-gpu-records·store-row (store-thm.met 𝓤 H 𝓜 𝓖 𝓡)))

@@ -244,4 +244,4 @@ ashlarkin-step-records-spec 𝓤 H 𝓜 𝓖 𝓡 =
     (code.unfolded 𝓤 H 𝓜 𝓡)
     (meets 𝓤 H (𝓖 .A) (givenOf 𝓤 H 𝓜 𝓖) (𝓜 .mem) (𝓡 .run) (tablesOf 𝓤 H 𝓜 (tables 𝓤 H 𝓜 𝓡 code.env))
     (cited 𝓤 H (Step 𝓤 H (𝓖 .A) (𝓜 .mem) (𝓡 .run)) 𝓜 𝓡 code.env #records·step-pair step-def.routine
-    code.calls-records·step-pair (step-thm.met 𝓤 H 𝓜 𝓖 𝓡)))
+    code.calls-gpu-records·step-pair (step-thm.met 𝓤 H 𝓜 𝓖 𝓡)))

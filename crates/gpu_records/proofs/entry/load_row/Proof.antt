@@ -325,4 +325,4 @@ load-row-spec 𝓤 H 𝓜 𝓖 𝓡 =
     (code.unfolded 𝓤 H 𝓜 𝓡)
     (meets 𝓤 H (𝓖 .A) (givenOf 𝓤 H 𝓜 𝓖) (𝓜 .mem) (𝓡 .run) (tablesOf 𝓤 H 𝓜 (tables 𝓤 H 𝓜 𝓡 code.env))
     (cited 𝓤 H (Blank 𝓤 H (𝓖 .A) (𝓜 .mem) (𝓡 .run)) 𝓜 𝓡 code.env #records·entry·blank-row blank-def.routine
-    code.calls-records·entry·blank-row (blank-thm.met 𝓤 H 𝓜 𝓖 𝓡)))
+    code.calls-gpu-records·entry·blank-row (blank-thm.met 𝓤 H 𝓜 𝓖 𝓡)))
