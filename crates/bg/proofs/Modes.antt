@@ -16,7 +16,7 @@ use Rattle.rows.proofs.Tab.{tab-cong, tab-replicate}
 use Rattle.regs.specs.Registers.{dispcnt, bgcnt, hofs, vofs, pa, pc}
 use Rattle.regs.specs.Display.{mode, displayFrameSelect}
 use Rattle.bg_regular.specs.Regular.{regularColor}
-use Rattle.bg.specs.Affine.{affineColor}
+use Rattle.bg.specs.Affine.{affineBgColor}
 use Rattle.bg.specs.Bitmap.{bitmapColor}
 use Rattle.gpu_step.specs.References.{References}
 use Rattle.bg.specs.Background.{referenceX, referenceY, bgKind, kindColor, backgroundColor}
@@ -63,7 +63,7 @@ module _ (vram palette registers : List ℕ) (references : References) (bg colum
 
   pub backgroundColor-affine : bgKind (mode (dispcnt registers)) bg ≡ Affine →
       backgroundColor vram palette registers references bg column line
-      ≡ affineColor vram palette (bgcnt registers bg)
+      ≡ affineBgColor vram palette (bgcnt registers bg)
       (referenceX references bg) (referenceY references bg) (pa registers bg) (pc registers bg) column
   unfolding backgroundColor kindColor
   backgroundColor-affine e = rw e
@@ -94,7 +94,7 @@ module _ (vram palette registers : List ℕ) (references : References) (bg line 
 
   pub affineLine-is : {x y : ℤ} {a c : ℕ} {r : List Rgb15} → kind ≡ Affine →
       x ≡ referenceX references bg → y ≡ referenceY references bg → a ≡ pa registers bg → c ≡ pc registers bg →
-      r ≡ tab (λ column. rgb (affineColor vram palette control x y a c column)) 240 →
+      r ≡ tab (λ column. rgb (affineBgColor vram palette control x y a c column)) 240 →
       r ≡ tab (λ column. rgb (backgroundColor vram palette registers references bg column line)) 240
   affineLine-is told x-is y-is a-is c-is r-is =
       r-is

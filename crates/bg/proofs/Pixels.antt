@@ -15,12 +15,12 @@ use Rattle.memory.specs.declared.PixelFormat.the-variants.{BPP8}
 use Rattle.regs.specs.Background.{BgControlOf, charBlock, screenBlock}
 use Rattle.regs.specs.declared.BgControl.{BgControl}
 use Rattle.bg_regular.specs.Regular.{tileColor}
-use Rattle.bg_points.specs.Biased.{coordinate, Side}
+use Rattle.bg_points.specs.Code.{coordinate, Side}
 use Rattle.bg_points.specs.Point.{pointColor}
 use Rattle.bg_points.specs.declared.ViewPort.{ViewPort}
 use Rattle.bg_points.proofs.Points.{point-is}
 use Rattle.bg.specs.Bitmap.{BitmapViewPort, bitmapStart, bitmapPixel, bitmapColor}
-use Rattle.bg.specs.Affine.{affineSide, affineTile, affinePixel, affineColor}
+use Rattle.bg.specs.Affine.{affineSide, affineTile, affinePixel, affineBgColor}
 
 -- No side is longer than 1024.
 pub affineSide-bound : (size : ℕ) → size < 4 → affineSide size ≤ 1024
@@ -80,12 +80,12 @@ module _ (vram palette : List ℕ) (control rx ry pa pc dx dy column x y : ℕ)
     (y-is : down256 (subℕ ry (2 ^ 28) +ℤ pos column *ℤ subℕ dy (2 ^ 15)) ≡ coordinate y)
     {b : BgControl} (control-is : BgControlOf control b) where
   -- Of an affine background.
-  pub affineColor-is : {side screen tiles c : ℕ} →
+  pub affineBgColor-is : {side screen tiles c : ℕ} →
       side ≡ affineSide (b .size) → screen ≡ screenBlock (b .«screen_base_block») → tiles ≡ charBlock (b .«character_base_block») →
       c ≡ pointColor (b .«affine_wraparound») side side (affinePixel vram palette screen tiles side) (coordinate x) (coordinate y) →
-      c ≡ affineColor vram palette control (subℕ rx (2 ^ 28)) (subℕ ry (2 ^ 28)) pa pc column
-  unfolding affineColor
-  affineColor-is side-is screen-is tiles-is color-is =
+      c ≡ affineBgColor vram palette control (subℕ rx (2 ^ 28)) (subℕ ry (2 ^ 28)) pa pc column
+  unfolding affineBgColor
+  affineBgColor-is side-is screen-is tiles-is color-is =
       cc (point-is rx dx pa column x pa-is x-is, point-is ry dy pc column y pc-is y-is)
 
   -- Of a bitmap.

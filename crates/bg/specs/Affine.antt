@@ -24,8 +24,8 @@ affinePixel vram palette screen tiles side x y =
     tileColor vram palette (tiles + 0x40 * affineTile vram screen side x y) (x % 8) (y % 8) BPP8 0
 
 -- The colour of an affine background at a column, by its references x and y and its steps pa and pc (LCD I/O BG Rotation/Scaling).
-unfoldable pub affineColor : List ℕ → List ℕ → ℕ → ℤ → ℤ → ℕ → ℕ → ℕ → ℕ
-affineColor vram palette control x y pa pc column =
+unfoldable pub affineBgColor : List ℕ → List ℕ → ℕ → ℤ → ℤ → ℕ → ℕ → ℕ → ℕ
+affineBgColor vram palette control x y pa pc column =
     pointColor (affineWraparound control) (affineSide (size control)) (affineSide (size control))
     (affinePixel vram palette (screenBlock (screenBaseBlock control)) (charBlock (characterBaseBlock control)) (affineSide (size control)))
     (transformBgPoint x pa column)

@@ -10,7 +10,7 @@ use Rattle.regs.specs.Registers.{dispcnt, bgcnt, hofs, vofs, pa, pc}
 use Rattle.regs.specs.Display.{mode, displayFrameSelect}
 use Rattle.bg_regular.specs.Regular.{regularColor}
 use Rattle.gpu_step.specs.References.{References}
-use Rattle.bg.specs.Affine.{affineColor}
+use Rattle.bg.specs.Affine.{affineBgColor}
 use Rattle.bg.specs.Bitmap.{bitmapColor}
 use Rattle.bg.specs.declared.BgKind.{BgKind}
 use Rattle.bg.specs.declared.BgKind.the-variants.{Regular, Affine, Bitmap, Absent}
@@ -43,7 +43,7 @@ unfoldable pub kindColor : BgKind → List ℕ → List ℕ → List ℕ → Ref
 kindColor Regular vram palette registers references bg column line =
     regularColor vram palette (bgcnt registers bg) (hofs registers bg) (vofs registers bg) column line
 kindColor Affine vram palette registers references bg column line =
-    affineColor vram palette (bgcnt registers bg)
+    affineBgColor vram palette (bgcnt registers bg)
     (referenceX references bg) (referenceY references bg) (pa registers bg) (pc registers bg) column
 kindColor Bitmap vram palette registers references bg column line =
     bitmapColor vram palette (mode (dispcnt registers)) (displayFrameSelect (dispcnt registers)) (bgcnt registers bg)

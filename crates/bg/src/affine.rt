@@ -5,16 +5,16 @@ ghost use Prim.Native.Nat.{_≤_, _<_};
 ghost use Rattle.rgb15.specs.Colour.{rgb};
 ghost use Rattle.signed.specs.Signed.{inRange};
 ghost use Rattle.rows.specs.Tab.{tab};
-ghost use Rattle.bg_regular.specs.Lent.{Lent};
-ghost use Rattle.bg_points.specs.Biased.{coordinate, Side};
+ghost use Rattle.memory.specs.Code.{Lent};
+ghost use Rattle.bg_points.specs.Code.{coordinate, Side};
 ghost use Rattle.bg_points.specs.Point.{pointColor};
-ghost use Rattle.bg.specs.Affine.{affineSide, affinePixel, affineColor};
-use memory::DISPLAY_WIDTH;
-use memory::PixelFormat;
-use memory::read_8;
+ghost use Rattle.bg.specs.Affine.{affineSide, affinePixel, affineBgColor};
 use bg_points::ViewPort;
 use bg_points::rem_euclid;
 use bg_points::transform_bg_point;
+use memory::DISPLAY_WIDTH;
+use memory::PixelFormat;
+use memory::read_8;
 use regs::BgControl;
 use rgb15::Rgb15;
 use signed::lift_half;
@@ -97,7 +97,7 @@ pub fn render_aff_bg(
     pc: u16,
 ) -> [Rgb15; 240]
     requires { ⌜ Lent (now vram) (now palette) × (inRange «ref_x» ≡ true) × (inRange «ref_y» ≡ true) ⌝ }
-    ensures { λ r. ⌜ r ≡ tab (λ column. rgb (affineColor (now (vram .entry)) (now (palette .entry)) control «ref_x» «ref_y» pa pc column)) 240 ⌝ }
+    ensures { λ r. ⌜ r ≡ tab (λ column. rgb (affineBgColor (now (vram .entry)) (now (palette .entry)) control «ref_x» «ref_y» pa pc column)) 240 ⌝ }
 {
     let bgcnt = BgControl::from(control);
     let side = texture_size(bgcnt.size);

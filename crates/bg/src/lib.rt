@@ -10,13 +10,14 @@ ghost use Rattle.rows.specs.Tab.{tab};
 ghost use Rattle.memory.specs.Sizes.{registersSize};
 ghost use Rattle.regs.specs.Registers.{dispcnt};
 ghost use Rattle.regs.specs.Display.{mode};
-ghost use Rattle.bg_regular.specs.Lent.{Lent};
+ghost use Rattle.memory.specs.Code.{Lent};
 ghost use Rattle.bg.specs.Background.{bgKind, backgroundColor};
 
 mod affine;
 mod bitmap;
 
 pub use affine::render_aff_bg;
+use bg_regular::render_reg_bg;
 pub use bitmap::render_bitmap;
 use memory::read_16;
 use regs::iodev::read_dispcnt;
@@ -24,7 +25,6 @@ use regs::iodev::read_hofs;
 use regs::iodev::read_pa;
 use regs::iodev::read_pc;
 use regs::iodev::read_vofs;
-use bg_regular::render_reg_bg;
 use rgb15::Rgb15;
 
 const BG0CNT: usize = 0x08;

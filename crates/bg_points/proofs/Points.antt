@@ -9,7 +9,7 @@ use borrow.Author.Tests.{not-true, not-false}
 use Rattle.rgb15.specs.Colour.{transparent}
 use Rattle.signed.specs.Signed.{signed16, down256, wrapped}
 use Rattle.signed.proofs.Difference.{up, subℕ-view}
-use Rattle.bg_points.specs.Biased.{coordinate}
+use Rattle.bg_points.specs.Code.{coordinate}
 use Rattle.bg_points.specs.Point.{transformBgPoint, shows, pointColor}
 
 -- A coordinate inside is wrapped to itself.

@@ -1,3 +1,3 @@
 -- Which point of a background a column shows. Assumes nothing.
 pub mod Point
-pub mod Biased
+pub mod Code

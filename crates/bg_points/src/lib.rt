@@ -4,7 +4,7 @@ ghost use mathlib.Core.Bool.{_&&_};
 ghost use Prim.Native.Nat.{_/_, _<_, _^_};
 ghost use lib.IntN.{pos, subℕ, _+ℤ_, _*ℤ_};
 ghost use Rattle.signed.specs.Signed.{down256, wrapped, within};
-ghost use Rattle.bg_points.specs.Biased.{coordinate, Side};
+ghost use Rattle.bg_points.specs.Code.{coordinate, Side};
 ghost use Rattle.bg_points.specs.Point.{shows};
 use signed::HALF_BIAS;
 

@@ -7,7 +7,7 @@ ghost use Rattle.rows.specs.Tab.{tab};
 ghost use Rattle.memory.specs.Sizes.{videoRamSize};
 ghost use Rattle.memory.specs.Tiles.{colours};
 ghost use Rattle.tiles.specs.Flip.{flipped};
-ghost use Rattle.bg_regular.specs.Lent.{Lent};
+ghost use Rattle.memory.specs.Code.{Lent};
 ghost use Rattle.bg_regular.specs.Regular.{tileIndex, xFlip, yFlip, entryBank, mapEntry, tileColor, entryColor, regularColor};
 use memory::DISPLAY_WIDTH;
 use memory::PixelFormat;

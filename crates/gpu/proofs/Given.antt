@@ -22,8 +22,8 @@ use Rattle.obj.proofs.Shapes.{shapedRow-after}
 use Rattle.gpu_step.specs.References.{inRanges}
 use Rattle.gpu_judge.specs.Judge.{Call, callOf, haveLengths, verdict, numberOf}
 use Rattle.gpu.specs.Line.{entriesAfter, lineAfter, blankLine}
-use Rattle.gpu_judge.specs.Rest.{lineVerdict}
-use Rattle.gpu.specs.Ready.{Ready}
+use Rattle.gpu_judge.specs.Code.{lineVerdict}
+use Rattle.gpu.specs.Code.{Ready}
 use Rattle.gpu.specs.Draw.{given, draw, Draws}
 use Rattle.gpu_judge.specs.declared.Verdict.{Verdict}
 use Rattle.gpu_judge.specs.declared.Verdict.the-variants.{

@@ -23,12 +23,12 @@ use Rattle.obj_sprites.specs.Sprite.{source}
 use Rattle.obj.specs.Put.{putSprites}
 use Rattle.sfx_sorting.specs.Ordered.{keep, stands, standing, ordered}
 use Rattle.sfx_layers.specs.Layers.{Layer, background, backgrounds}
-use Rattle.sfx_layers.specs.Places.{lineColor}
-use Rattle.sfx.specs.Lines.{bgLine}
+use Rattle.sfx_layers.specs.Code.{lineColor}
+use Rattle.sfx.specs.Code.{bgLine}
 use Rattle.sfx.specs.Pixel.{pixel}
 use Rattle.gpu_judge.specs.Judge.{Call}
 use Rattle.gpu.specs.Line.{entriesAfter, colorOf, pixelAt, lineAfter}
-use Rattle.gpu.specs.Ready.{colorIfOn}
+use Rattle.gpu.specs.Code.{colorIfOn}
 
 -- ---- the line of a background
 

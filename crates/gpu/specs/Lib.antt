@@ -1,4 +1,4 @@
 -- What a draw gives, for every input. Assumes nothing.
 pub mod Line
-pub mod Ready
 pub mod Draw
+pub mod Code

@@ -17,7 +17,7 @@ use Rattle.gpu_records.specs.Entries.{rowBytes, recordsIn}
 use Rattle.gpu_records.specs.declared.entry.ObjBufferEntry.{ObjBufferEntry}
 use Rattle.gpu_records.proofs.Rows.{length-rowBytes}
 use Rattle.gpu_draw_records.specs.Draw.{RecordDrawing, writes, drawRecords, DrawsRecords}
-use Rattle.gpu_draw_records.specs.Values.{rowRefusal, drawnRow}
+use Rattle.gpu_draw_records.specs.Code.{rowRefusal, drawnRow}
 use Rattle.gpu_draw_records.specs.declared.Drawn.{Drawn}
 
 -- ---- the byte form

@@ -1,3 +1,3 @@
 -- What the draw over a lent row of records gives, for every input. Assumes nothing.
 pub mod Draw
-pub mod Values
+pub mod Code

@@ -6,11 +6,11 @@ ghost use Rattle.gpu_judge.specs.Judge.{callOf};
 ghost use Rattle.gpu.specs.Draw.{draw};
 ghost use Rattle.gpu_records.specs.Entries.{rowBytes};
 ghost use Rattle.gpu_draw_records.specs.Draw.{writes};
-ghost use Rattle.gpu_draw_records.specs.Values.{rowRefusal, drawnRow};
-use memory::DISPLAY_WIDTH;
+ghost use Rattle.gpu_draw_records.specs.Code.{rowRefusal, drawnRow};
 use gpu_records::ObjBufferEntry;
 use gpu_records::decode_row;
 use gpu_records::encode_row;
+use memory::DISPLAY_WIDTH;
 use regs::iodev::read_dispcnt;
 
 // What a draw makes of a row: its number, and the row to be written, if it is to be.

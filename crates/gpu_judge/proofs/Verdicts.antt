@@ -6,7 +6,7 @@ use mathlib.Core.List.{List}
 use lib.Dec.{eqb, leb, ltb}
 use lib.ListN.{length}
 use borrow.Author.Tests.{eqb-true, lt-ltb, le-ltb, le-leb, lt-leb}
-use Rattle.signed.proofs.Order.{and-both}
+use Rattle.bits.proofs.Booleans.{and-both}
 use Rattle.memory.specs.Memory.{Memory}
 use Rattle.memory.specs.Sizes.{videoRamSize, paletteRamSize, oamSize, registersSize, displayHeight, outputSize}
 use Rattle.regs.specs.Registers.{dispcnt, bldy}
@@ -14,8 +14,7 @@ use Rattle.regs.specs.Display.{mode, forceBlank}
 use Rattle.gpu_step.specs.References.{References, inRanges}
 use Rattle.obj_entries.specs.Entry.{entriesSize, shapedRow}
 use Rattle.gpu_judge.specs.Judge.{Call, haveLengths, verdict}
-use Rattle.gpu_judge.specs.Lengths.{Lengths}
-use Rattle.gpu_judge.specs.Rest.{lineVerdict}
+use Rattle.gpu_judge.specs.Code.{Lengths, lineVerdict}
 use Rattle.gpu_judge.specs.declared.Verdict.{Verdict}
 use Rattle.gpu_judge.specs.declared.Verdict.the-variants.{
   BadReading,

@@ -4,12 +4,12 @@ ghost use lib.ListN.{length};
 ghost use Rattle.memory.specs.Sizes.{registersSize};
 ghost use Rattle.obj_entries.specs.Entry.{entriesSize};
 ghost use Rattle.gpu_judge.specs.Judge.{callOf, haveLengths, verdict, numberOf};
-ghost use Rattle.gpu_judge.specs.Rest.{lineVerdict};
-use regs_blend::read_bldy;
+ghost use Rattle.gpu_judge.specs.Code.{lineVerdict};
+use gpu_step::in_ranges;
 use obj_entries::ENTRIES_SIZE;
 use obj_entries::shaped_row;
-use gpu_step::in_ranges;
 use regs::iodev::read_dispcnt;
+use regs_blend::read_bldy;
 
 const VIDEO_RAM_SIZE: usize = 0x20000;
 

@@ -9,7 +9,7 @@ use Rattle.rows.proofs.Cells.{length-rowOf}
 use Rattle.rows.proofs.Passed.{Passed, filled}
 use Rattle.obj_entries.specs.Entry.{entryCells}
 use Rattle.obj_entries.specs.declared.Entry.{Entry}
-use Rattle.gpu_records.specs.Entries.{entryOf, resetRecord, rowBytes}
+use Rattle.gpu_records.specs.Entries.{entryOfRecord, resetRecord, rowBytes}
 use Rattle.gpu_records.specs.declared.entry.ObjBufferEntry.{ObjBufferEntry}
 
 -- What stands for a missing element is not read where there is one.
@@ -20,7 +20,7 @@ getD-within (a ∷ l) (suc k) d e h = getD-within l k d e (le-of-suc-le-suc h)
 
 -- The entry of record k.
 abbrev pub entryAt : List ObjBufferEntry → ℕ → Entry
-entryAt records k = entryOf (getD records k resetRecord)
+entryAt records k = entryOfRecord (getD records k resetRecord)
 
 pub length-rowBytes : (records : List ObjBufferEntry) → length (rowBytes records) ≡ 4 * length records
 unfolding rowBytes

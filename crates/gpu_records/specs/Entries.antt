@@ -14,8 +14,8 @@ use Rattle.gpu_records.specs.declared.entry.ObjBufferEntry.{ObjBufferEnt
 
 -- The entry of a record. A priority that a byte doesn't hold counts as 255, which no well-shaped entry has: so a record of
 -- 256 and more is ill shaped, as it is before it is narrowed.
-unfoldable pub entryOf : ObjBufferEntry → Entry
-entryOf r =
+unfoldable pub entryOfRecord : ObjBufferEntry → Entry
+entryOfRecord r =
     record {
       color = rgb (r .color .0);
       priority = min 255 (r .priority);
@@ -38,7 +38,7 @@ resetRecord = recordOf resetEntry
 
 -- The bytes of a row of records, four for each: a row of another length than 240 has other than 960.
 unfoldable pub rowBytes : List ObjBufferEntry → List ℕ
-rowBytes records = rowOf entryCells (λ k. entryOf (getD records k resetRecord)) (length records)
+rowBytes records = rowOf entryCells (λ k. entryOfRecord (getD records k resetRecord)) (length records)
 
 -- The 240 records of a row of bytes.
 unfoldable pub recordsIn : List ℕ → List ObjBufferEntry

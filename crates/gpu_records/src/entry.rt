@@ -4,11 +4,11 @@ ghost use Prim.Native.Nat.{_≤_, min};
 ghost use mathlib.Core.Bool.{cond};
 ghost use lib.ListN.{length};
 ghost use Rattle.obj_entries.specs.Entry.{entriesSize};
-ghost use Rattle.gpu_records.specs.Entries.{entryOf, recordOf, rowBytes, recordsIn};
+ghost use Rattle.gpu_records.specs.Entries.{entryOfRecord, recordOf, rowBytes, recordsIn};
+use memory::DISPLAY_WIDTH;
 use obj_entries::Entry;
 use obj_entries::entry_at;
 use obj_entries::put_entry;
-use memory::DISPLAY_WIDTH;
 
 // Bytes of a row.
 const ENTRIES_SIZE: usize = 960;
@@ -42,7 +42,7 @@ fn mark(set: bool, value: u8) -> u8
 
 // The entry of a record.
 fn entry_of(r: ObjBufferEntry) -> Entry
-    ensures { λ e. ⌜ e ≡ entryOf r ⌝ }
+    ensures { λ e. ⌜ e ≡ entryOfRecord r ⌝ }
 {
     let word = r.color.0;
     Entry {

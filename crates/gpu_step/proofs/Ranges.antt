@@ -3,7 +3,7 @@ use mathlib.Core.Path.{_≡_}
 use mathlib.Core.Bool.{Bool, true, _&&_}
 use lib.IntN.{ℤ}
 use Rattle.signed.specs.Signed.{inRange}
-use Rattle.signed.proofs.Order.{and-both}
+use Rattle.bits.proofs.Booleans.{and-both}
 use Rattle.gpu_step.specs.References.{References, inRanges}
 
 -- Reference numbers are equal by their fields.

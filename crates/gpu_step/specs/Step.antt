@@ -8,6 +8,7 @@ use lib.Dec.{eqb}
 use lib.IntN.{ℤ, _+ℤ_}
 use lib.ListN.{getD, length}
 use Rattle.signed.specs.Signed.{signed32, word32}
+use Rattle.rows.specs.Answer.{Answer}
 use Rattle.rows.specs.Cells.{cellAt, rowOf}
 use Rattle.rows.specs.Words.{wordCells}
 use Rattle.gpu_step.specs.References.{References, inRanges}
@@ -61,11 +62,6 @@ wordsOf r = word32 (r .x2) ∷ word32 (r .y2) ∷ word32 (r .x3) ∷ word32 (r .
 -- The bytes of the four.
 unfoldable pub bytesOf : References → List ℕ
 bytesOf r = rowOf wordCells (λ k. getD (wordsOf r) k 0) 4
-
--- What a routine on one buffer gives: its number, and the bytes afterwards.
-pub record Answer : Type 0 where
-  pub number : ℕ
-  pub bytes : List ℕ
 
 -- The lent bytes after each answer; a refusal leaves them unchanged.
 unfoldable pub bytesAfter : Stepped → List ℕ → List ℕ

@@ -3,3 +3,4 @@ pub mod Sizes
 pub mod Memory
 pub mod Palette
 pub mod Tiles
+pub mod Code

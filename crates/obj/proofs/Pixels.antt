@@ -22,7 +22,7 @@ use Rattle.obj_entries.proofs.Entries.{exact-entryCells}
 use Rattle.obj_sprites.specs.declared.attrs.ObjAttrs.{ObjAttrs}
 use Rattle.obj_sprites.specs.declared.attrs.ObjMode.{ObjMode}
 use Rattle.obj.specs.Put.{passedOver, shownBy, windowed, written, putPixel}
-use Rattle.obj.specs.Steps.{putColumn, putRow, putBox, AllPassedOver}
+use Rattle.obj.specs.Code.{putColumn, putRow, putBox, AllPassedOver}
 
 -- ---- one pixel
 

@@ -15,7 +15,7 @@ use Rattle.obj_sprites.specs.declared.attrs.ObjAttrs.{ObjAttrs}
 use Rattle.obj_sprites.specs.declared.attrs.ObjMode.{ObjMode}
 use Rattle.obj_sprites.proofs.attrs.ObjMode.{the-type}
 use Rattle.obj.specs.Put.{passedOver}
-use Rattle.obj.specs.Steps.{Closed, AllPassedOver}
+use Rattle.obj.specs.Code.{Closed, AllPassedOver}
 
 -- What holds of each number from a up to b.
 abbrev pub Each : (ℕ → Type 0) → ℕ → ℕ → Type 0

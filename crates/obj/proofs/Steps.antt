@@ -22,12 +22,12 @@ use Rattle.regs.specs.declared.ObjMapping.{ObjMapping}
 use Rattle.regs.specs.declared.reading.Reading.{Reading}
 use Rattle.obj_sprites.specs.Oam.{matrix}
 use Rattle.obj_sprites.specs.Attrs.{sprite}
-use Rattle.obj_sprites.specs.Color.{affineColor}
+use Rattle.obj_sprites.specs.Color.{affineObjColor}
 use Rattle.obj_sprites.specs.Tiles.{tilesStart}
 use Rattle.obj_sprites.specs.Sprite.{Source, source, drawn, typedColor, spriteColor}
 use Rattle.obj_entries.specs.Entry.{entryCells}
 use Rattle.obj.specs.Put.{putPixel, spriteStep, entryUpTo, putSprites}
-use Rattle.obj.specs.Steps.{putRow, NoneDrawn, NextDrawn}
+use Rattle.obj.specs.Code.{putRow, NoneDrawn, NextDrawn}
 use Rattle.obj_sprites.specs.declared.attrs.ObjAttrs.{ObjAttrs}
 use Rattle.obj_sprites.specs.declared.attrs.ObjType.{ObjType}
 use Rattle.obj_entries.specs.declared.Entry.{Entry}
@@ -49,7 +49,7 @@ putRow-typed reading mapping vram palette oam line entries {s} s-is type-is put-
 pub putRow-affine : (reading : Reading) (mapping : ObjMapping) (vram palette oam : List ℕ) (s : ObjAttrs) (line : ℕ)
     (entries : List ℕ)
     (type : ObjType) {m : List ℕ} → OneOf (1 ∷ 3 ∷ []) (tagOf the-type type)
-    → m ≡ putRow s (affineColor reading mapping vram palette (matrix oam (s .«affine_index»)) s line) entries
+    → m ≡ putRow s (affineObjColor reading mapping vram palette (matrix oam (s .«affine_index»)) s line) entries
     → m ≡ putRow s (typedColor type reading mapping vram palette oam s line) entries
 unfolding typedColor
 putRow-affine reading mapping vram palette oam s line entries ObjType.Normal one put-is = absurd (miss (1 ∷ 3 ∷ []) 0 tt one)

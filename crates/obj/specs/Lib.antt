@@ -1,4 +1,4 @@
 -- What the pass makes of a row of entries, and which pixel each holds. Assumes nothing.
 pub mod Put
-pub mod Steps
 pub mod Order
+pub mod Code

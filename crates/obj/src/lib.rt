@@ -8,18 +8,14 @@ ghost use Rattle.obj_entries.specs.Entry.{entriesSize};
 ghost use Rattle.obj_sprites.specs.Oam.{matrix};
 ghost use Rattle.obj_sprites.specs.Attrs.{sprite, Decoded};
 ghost use Rattle.obj_sprites.specs.Place.{onLine};
-ghost use Rattle.obj_sprites.specs.Color.{normalColor, affineColor};
+ghost use Rattle.obj_sprites.specs.Color.{normalColor, affineObjColor};
 ghost use Rattle.obj_sprites.specs.Sprite.{source, typedColor};
 ghost use Rattle.obj.specs.Put.{shownBy, windowed, putSprites};
-ghost use Rattle.obj.specs.Steps.{putColumn, putRow, putBox, Closed, AllPassedOver, NextDrawn};
+ghost use Rattle.obj.specs.Code.{putColumn, putRow, putBox, Closed, AllPassedOver, NextDrawn};
+use memory::DISPLAY_WIDTH;
 use obj_entries::Entry;
 use obj_entries::entry_at;
 use obj_entries::put_unless;
-use memory::DISPLAY_WIDTH;
-use regs::ObjMapping;
-use regs::Reading;
-use regs::iodev::read_dispcnt;
-use rgb15::Rgb15;
 use obj_sprites::OBJ_COUNT;
 use obj_sprites::ObjAttrs;
 use obj_sprites::ObjMode;
@@ -31,6 +27,10 @@ use obj_sprites::read_obj_attrs;
 use obj_texels::affine_row;
 use obj_texels::texel_row;
 use obj_texels::turn_line;
+use regs::ObjMapping;
+use regs::Reading;
+use regs::iodev::read_dispcnt;
+use rgb15::Rgb15;
 
 // The first column of the screen that a box covers, by its left edge plus 272.
 fn first_column(left: usize) -> usize
@@ -134,7 +134,7 @@ fn render_affine_obj(
     ensures { λ _.
         ⌜ now (entries .exit)
         ≡ putRow attrs
-        (affineColor reading mapping (now (vram .entry)) (now (palette .entry))
+        (affineObjColor reading mapping (now (vram .entry)) (now (palette .entry))
         (matrix (now (oam .entry)) (attrs .«affine_index»)) attrs line)
         (now (entries .entry)) ⌝ }
 {

@@ -17,7 +17,7 @@ use Rattle.rows.proofs.Below.{allBelow-tally}
 use Rattle.rows.proofs.Bytes.{bytesAt, bytesFrom-at}
 use Rattle.rows.proofs.Words.{low-join, high-join}
 use Rattle.obj_entries.specs.Entry.{entryCells, wellShaped, shapedRow}
-use Rattle.obj_entries.specs.Word.{entryOf}
+use Rattle.obj_entries.specs.Code.{entryOfWord}
 use Rattle.obj_entries.specs.declared.Entry.{Entry}
 
 -- A row of bytes is exact.
@@ -50,12 +50,12 @@ module _ (color priority marks : ℕ) {w : ℕ} (color< : color < 0x10000) (fits
   word-marks : w / 0x1000000 ≡ marks
   word-marks = rw word-is (top-part (color + 0x10000 * priority) marks (omega arith))
 
-  pub entryOf-parts : entryOf w ≡ record { color = rgb color; priority = priority; marks = marks }
-  entryOf-parts = λ i. record { color = rgb (word-color i); priority = word-priority i; marks = word-marks i }
+  pub entryOfWord-parts : entryOfWord w ≡ record { color = rgb color; priority = priority; marks = marks }
+  entryOfWord-parts = λ i. record { color = rgb (word-color i); priority = word-priority i; marks = word-marks i }
 
 -- The entry of a word that was read.
 pub entry-of-word : (l : List ℕ) → ((i : ℕ) → Fits w8 (getD l i 0)) → (k : ℕ) {w : ℕ} → w ≡ cellAt wordCells l k
-    → entryOf w ≡ cellAt entryCells l k
+    → entryOfWord w ≡ cellAt entryCells l k
 unfolding entryCells wordCells cellAt bytesAt
 entry-of-word l bytes k {w} read =
     let word-is : w ≡ getD l (4 * k) 0 + 0x100 * getD l (4 * k + 1) 0 + 0x10000 * getD l (4 * k + 2) 0
@@ -65,7 +65,7 @@ entry-of-word l bytes k {w} read =
     let second = bytes (4 * k + 1) in
     let third = bytes (4 * k + 2) in
     rw bytesFrom-at
-    (entryOf-parts (getD l (4 * k) 0 + 256 * getD l (4 * k + 1) 0) (getD l (4 * k + 2) 0) (getD l (4 * k + 3) 0)
+    (entryOfWord-parts (getD l (4 * k) 0 + 256 * getD l (4 * k + 1) 0) (getD l (4 * k + 2) 0) (getD l (4 * k + 3) 0)
     (omega arith) third word-is)
 
 -- The two bytes of a word's colour.
@@ -76,7 +76,7 @@ high-byte : (w : ℕ) → w / 0x100 % 0x100 ≡ w % 0x10000 / 256
 high-byte w = omega arith
 
 -- A word that is put is its entry put.
-putCell-word : (l : List ℕ) (k w : ℕ) → putCell wordCells l k w ≡ putCell entryCells l k (entryOf w)
+putCell-word : (l : List ℕ) (k w : ℕ) → putCell wordCells l k w ≡ putCell entryCells l k (entryOfWord w)
 unfolding putCell entryCells wordCells
 putCell-word l k w =
     ap₂ (λ a b. putFrom l (4 * k) (a ∷ b ∷ w / 0x10000 % 0x100 ∷ w / 0x1000000 ∷ [])) (low-byte w) (high-byte w)
@@ -84,15 +84,15 @@ putCell-word l k w =
 -- One of two words is put, the one that was read or that of an entry.
 pub putCell-chosen : (l : List ℕ) → ((i : ℕ) → Fits w8 (getD l i 0)) → (k : ℕ) (kept : Bool)
     (w : ℕ) {v u : ℕ} {m : List ℕ} {e : Entry}
-    → v ≡ cellAt wordCells l k → entryOf w ≡ e → u ≡ cond kept v w → m ≡ putCell wordCells l k u
+    → v ≡ cellAt wordCells l k → entryOfWord w ≡ e → u ≡ cond kept v w → m ≡ putCell wordCells l k u
     → m ≡ putCell entryCells l k (cond kept (cellAt entryCells l k) e)
 putCell-chosen l bytes k kept w {v} {e = e} v-is w-is u-is m-is =
     m-is
     ∙ putCell-word l k _
-    ∙ ap (λ u. putCell entryCells l k (entryOf u)) u-is
+    ∙ ap (λ u. putCell entryCells l k (entryOfWord u)) u-is
     ∙ ap (putCell entryCells l k) (go kept)
   where
-    go : (kept : Bool) → entryOf (cond kept v w) ≡ cond kept (cellAt entryCells l k) e
+    go : (kept : Bool) → entryOfWord (cond kept v w) ≡ cond kept (cellAt entryCells l k) e
     go true = entry-of-word l bytes k v-is
     go false = w-is
 

@@ -8,11 +8,11 @@ use mathlib.Core.Logic.{_⊎_, inl, inr, ⊎-elim}
 use lib.Dec.{eqb, leb}
 use borrow.Author.Tests.{eqb-true, eqb-false, eq-eqb, ne-eqb, leb-true, le-leb, not-true}
 use Rattle.rgb15.specs.Colour.{transparent}
-use Rattle.signed.proofs.Order.{and-both}
+use Rattle.bits.proofs.Booleans.{and-both}
 use Rattle.rows.proofs.Below.{allBelow-ext}
 use Rattle.rows.proofs.Cells.{cellAt-rowOf}
 use Rattle.obj_entries.specs.Entry.{entryCells, semiMark, resetRow, wellShaped, shapedRow}
-use Rattle.obj_entries.specs.Word.{entryOf}
+use Rattle.obj_entries.specs.Code.{entryOfWord}
 use Rattle.obj_entries.specs.declared.Entry.{Entry}
 
 -- One of two tests holds where either does.
@@ -105,22 +105,22 @@ module _ (w : ℕ) where
   abbrev isShownWord : Bool
   isShownWord = eqb (w / 0x8000 % 2) 0 && eqb (w / 0x40000 % 0x40) 0 && eqb (w / 0x4000000) 0
 
-  wellShaped-blankWord : isBlankWord ≡ true → wellShaped (entryOf w) ≡ true
+  wellShaped-blankWord : isBlankWord ≡ true → wellShaped (entryOfWord w) ≡ true
   wellShaped-blankWord t =
       let fields = unmarked-fields (eqb-true unmarked 0x48000 t) in
       let semi-is = ne-eqb (w / 0x1000000 / 1 % 2) 1 (omega (arith, fields .3)) in
-      wellShaped-blank (entryOf w) (fields .0) (fields .1) (fields .2) semi-is
+      wellShaped-blank (entryOfWord w) (fields .0) (fields .1) (fields .2) semi-is
 
-  wellShaped-shownWord : isShownWord ≡ true → wellShaped (entryOf w) ≡ true
+  wellShaped-shownWord : isShownWord ≡ true → wellShaped (entryOfWord w) ≡ true
   wellShaped-shownWord t =
       let all = and-both (eqb (w / 0x8000 % 2) 0 && eqb (w / 0x40000 % 0x40) 0) (eqb (w / 0x4000000) 0) t in
       let front = and-both (eqb (w / 0x8000 % 2) 0) (eqb (w / 0x40000 % 0x40) 0) (all .0) in
-      wellShaped-shown (entryOf w)
+      wellShaped-shown (entryOfWord w)
       (marks-clear (eqb-true _ 0 (all .1)))
       (priority-clear (eqb-true _ 0 (front .1)))
       (color-clear (eqb-true _ 0 (front .0)))
 
-  word-wellShaped : Shape (entryOf w) → (isBlankWord || isShownWord) ≡ true
+  word-wellShaped : Shape (entryOfWord w) → (isBlankWord || isShownWord) ≡ true
   word-wellShaped (marks≤, inl blank) =
       let semi-is = eqb-false (w / 0x1000000 / 1 % 2) 1 (blank .2) in
       rw (eq-eqb unmarked 0x48000 (fields-unmarked marks≤ (blank .0) (blank .1) semi-is))
@@ -129,11 +129,11 @@ module _ (w : ℕ) where
       rw (eq-eqb _ 0 (bits .0), eq-eqb _ 0 (bits .1), eq-eqb _ 0 (bits .2)) (or-true isBlankWord)
 
   -- A word's tests are those of its entry.
-  pub wellShaped-word : (isBlankWord || isShownWord) ≡ wellShaped (entryOf w)
+  pub wellShaped-word : (isBlankWord || isShownWord) ≡ wellShaped (entryOfWord w)
   wellShaped-word =
-      both-ways (isBlankWord || isShownWord) (wellShaped (entryOf w))
+      both-ways (isBlankWord || isShownWord) (wellShaped (entryOfWord w))
       (λ t. ⊎-elim wellShaped-blankWord wellShaped-shownWord (or-split isBlankWord isShownWord t))
-      (λ t. word-wellShaped (shape-of (entryOf w) t))
+      (λ t. word-wellShaped (shape-of (entryOfWord w) t))
 
 -- The reset row is well shaped.
 pub shapedRow-reset : shapedRow resetRow ≡ true

@@ -1,6 +1,7 @@
 -- Object entries (01, "What one draw takes and gives"). Assumes nothing.
 use Prim.Native.Nat.{ℕ, _+_, _*_, _/_, _%_}
-use mathlib.Core.Path.{refl}
+use native.Mathlib.Omega.{arith}
+use mathlib.Core.Path.{refl, ap}
 use mathlib.Core.Bool.{Bool, not, _&&_, _||_}
 use mathlib.Core.List.{List, [], _∷_}
 use lib.Dec.{eqb, leb}
@@ -10,7 +11,6 @@ use Rattle.rgb15.specs.Colour.{rgb, transparent}
 use Rattle.memory.specs.Sizes.{displayWidth}
 use Rattle.rows.specs.Below.{allBelow}
 use Rattle.rows.specs.Cells.{Codec, cellAt, rowOf}
-use Rattle.rows.proofs.Words.{join-split}
 use Rattle.obj_entries.specs.declared.Entry.{Entry}
 
 -- A row of entries has 960 bytes, 240 of 4.
@@ -24,7 +24,7 @@ entryCells =
       enc = λ e. e .color .0 % 256 ∷ e .color .0 / 256 ∷ e .priority ∷ e .marks ∷ [];
       dec = λ bs. record { color = rgb (getD bs 0 0 + 256 * getD bs 1 0); priority = getD bs 2 0; marks = getD bs 3 0 };
       length-enc = λ e. refl;
-      dec-enc = λ e. simp join-split;
+      dec-enc = λ e. ap (λ c. record { color = rgb c; priority = e .priority; marks = e .marks }) (omega arith);
     }
 
 -- The semi-transparent mark is bit 0.

@@ -1,4 +1,4 @@
 -- What the entries of a row are, and what a row reset gives. Assumes nothing.
 pub mod Entry
-pub mod Word
 pub mod Reset
+pub mod Code

@@ -5,7 +5,7 @@ use mathlib.Core.Bool.{cond}
 use mathlib.Core.List.{List}
 use lib.Dec.{eqb}
 use lib.ListN.{length}
-use Rattle.gpu_step.specs.Step.{Answer}
+use Rattle.rows.specs.Answer.{Answer}
 use Rattle.obj_entries.specs.Entry.{entriesSize, resetRow}
 
 -- A row reset writes 240 reset entries and gives 0, or gives 2 for a wrong length and writes nothing.

@@ -6,7 +6,7 @@ ghost use Prim.Native.Nat.{_≤_, _<_};
 ghost use lib.ListN.{length};
 ghost use Rattle.rows.specs.Cells.{cellAt, putCell};
 ghost use Rattle.obj_entries.specs.Entry.{entriesSize, entryCells, resetEntry, resetRow, wellShaped, shapedRow};
-ghost use Rattle.obj_entries.specs.Word.{entryOf};
+ghost use Rattle.obj_entries.specs.Code.{entryOfWord};
 ghost use Rattle.obj_entries.specs.Reset.{Resets};
 use rgb15::Rgb15;
 use rows::put_word;
@@ -57,7 +57,7 @@ pub fn put_entry(entries: &mut [u8], k: usize, e: Entry)
 
 // The word of an entry.
 fn word_of(e: Entry) -> u32
-    ensures { λ r. ⌜ entryOf r ≡ e ⌝ }
+    ensures { λ r. ⌜ entryOfWord r ≡ e ⌝ }
 {
     e.color.0 as u32 + 0x1_0000 * (e.priority as u32) + 0x100_0000 * (e.marks as u32)
 }
@@ -119,7 +119,7 @@ pub fn reset(entries: &mut [u8]) -> u32
 // 1 for a word that isn't that of a well-shaped entry, else 0. Over a whole word each test is one mask: that nothing but
 // the window mark differs from the reset entry, or that no bit is set which an entry that shows a pixel has clear.
 fn fault(word: u32) -> u32
-    ensures { λ r. ⌜ (r ≡ cond (wellShaped (entryOf word)) 0 1) × (r ≤ 1) ⌝ }
+    ensures { λ r. ⌜ (r ≡ cond (wellShaped (entryOfWord word)) 0 1) × (r ≤ 1) ⌝ }
 {
     let blank = word - 0x200_0000 * (word / 0x200_0000 % 2) == 0x4_8000;
     let shown = (word / 0x8000 % 2 == 0) & (word / 0x4_0000 % 0x40 == 0) & (word / 0x400_0000 == 0);

@@ -16,7 +16,7 @@ use Rattle.obj_sprites.specs.Oam.{Matrix}
 use Rattle.obj_sprites.specs.Attrs.{sprite}
 use Rattle.obj_sprites.specs.Place.{boxWidth, boxHeight, across, below}
 use Rattle.obj_sprites.specs.Tiles.{texel}
-use Rattle.obj_sprites.specs.Color.{flip, normalColor, turn, colorAt, affineColor}
+use Rattle.obj_sprites.specs.Color.{flip, normalColor, turn, colorAt, affineObjColor}
 use Rattle.obj_sprites.specs.Sprite.{Source, drawn, typedColor, spriteColor}
 use Rattle.obj_sprites.specs.declared.attrs.ObjAttrs.{ObjAttrs}
 use Rattle.obj_sprites.specs.declared.attrs.ObjType.{ObjType}
@@ -57,8 +57,8 @@ module _ (reading : Reading) (mapping : ObjMapping) (vram palette : List ℕ) (s
       (texel reading mapping vram palette s (natAbs x) (natAbs y)) transparent
       (clean-texel (natAbs x) (natAbs y)) clean-transparent
 
-  clean-affine : (m : Matrix) (line column : ℕ) → Clean (affineColor reading mapping vram palette m s line column)
-  unfolding affineColor
+  clean-affine : (m : Matrix) (line column : ℕ) → Clean (affineObjColor reading mapping vram palette m s line column)
+  unfolding affineObjColor
   clean-affine m line column =
       let ix = across reading s column -ℤ pos (boxWidth s / 2) in
       let iy = below reading s line -ℤ pos (boxHeight s / 2) in

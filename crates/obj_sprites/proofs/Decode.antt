@@ -9,7 +9,7 @@ use lib.IntN.{subℕ}
 use borrow.Author.Tests.{eqb-true, leb-true}
 use Rattle.bits.specs.Bits.{bits, bit}
 use Rattle.signed.specs.Signed.{signed16}
-use Rattle.signed.proofs.Order.{and-both}
+use Rattle.bits.proofs.Booleans.{and-both}
 use Rattle.rows.specs.Below.{allBelow}
 use Rattle.rows.proofs.Below.{allBelow-at}
 use Rattle.memory.specs.Memory.{half}

@@ -6,7 +6,7 @@ use mathlib.Core.Bool.{Bool, true, false, not, _&&_, _||_, and-false}
 use lib.Dec.{leb, ltb}
 use lib.IntN.{subℕ}
 use borrow.Author.Tests.{not-true, not-false, ltb-false, le-leb, le-ltb, lt-leb}
-use Rattle.signed.proofs.Order.{and-both}
+use Rattle.bits.proofs.Booleans.{and-both}
 use Rattle.signed.proofs.Remainder.{within-subℕ}
 use Rattle.regs.specs.declared.reading.Reading.{Reading}
 use Rattle.obj_sprites.specs.Place.{boxHeight, top, onLine}

@@ -9,7 +9,7 @@ use lib.IntN.{ℤ, pos, subℕ, _-ℤ_}
 use borrow.Author.Tests.{lt-ltb, le-ltb, leb-true, ltb-true, ltb-false}
 use Rattle.signed.specs.Signed.{within}
 use Rattle.signed.proofs.Difference.{View, up, down, view, subℕ-view, subℕ-cross, sub-pos-subℕ}
-use Rattle.signed.proofs.Order.{and-both, leb-same}
+use Rattle.bits.proofs.Booleans.{and-both, leb-same}
 use Rattle.signed.proofs.Remainder.{within-subℕ}
 use Rattle.rows.specs.Below.{between}
 use Rattle.rows.proofs.Below.{between-before, between-past}

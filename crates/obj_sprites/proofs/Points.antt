@@ -6,7 +6,7 @@ use mathlib.Core.List.{List}
 use lib.IntN.{subℕ}
 use Rattle.rgb15.specs.Colour.{transparent}
 use Rattle.signed.specs.Signed.{within}
-use Rattle.signed.proofs.Order.{and-both}
+use Rattle.bits.proofs.Booleans.{and-both}
 use Rattle.regs.specs.declared.ObjMapping.{ObjMapping}
 use Rattle.regs.specs.declared.reading.Reading.{Reading}
 use Rattle.obj_sprites.specs.Tiles.{texel}

@@ -39,8 +39,8 @@ colorAt reading mapping vram palette s x y =
     transparent
 
 -- An affine sprite's colour at a column: offsets run from the box's middle, and it never flips.
-unfoldable pub affineColor : Reading → ObjMapping → List ℕ → List ℕ → Matrix → ObjAttrs → ℕ → ℕ → ℕ
-affineColor reading mapping vram palette m s line column =
+unfoldable pub affineObjColor : Reading → ObjMapping → List ℕ → List ℕ → Matrix → ObjAttrs → ℕ → ℕ → ℕ
+affineObjColor reading mapping vram palette m s line column =
     let ix = across reading s column -ℤ pos (boxWidth s / 2) in
     let iy = below reading s line -ℤ pos (boxHeight s / 2) in
     cond (within (across reading s column) (boxWidth s))

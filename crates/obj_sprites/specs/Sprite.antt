@@ -13,7 +13,7 @@ use Rattle.obj_sprites.specs.Oam.{matrix}
 use Rattle.obj_sprites.specs.Attrs.{sprite}
 use Rattle.obj_sprites.specs.Place.{onLine}
 use Rattle.obj_sprites.specs.Tiles.{tilesStart, tileBase}
-use Rattle.obj_sprites.specs.Color.{normalColor, affineColor}
+use Rattle.obj_sprites.specs.Color.{normalColor, affineObjColor}
 use Rattle.obj_sprites.specs.declared.attrs.ObjAttrs.{ObjAttrs}
 use Rattle.obj_sprites.specs.declared.attrs.ObjMode.{ObjMode}
 use Rattle.obj_sprites.specs.declared.attrs.ObjType.{ObjType}
@@ -83,10 +83,10 @@ unfoldable pub typedColor : ObjType → Reading → ObjMapping → List ℕ → 
 typedColor ObjType.Normal reading mapping vram palette oam s line column =
     normalColor reading mapping vram palette s line column
 typedColor ObjType.Affine reading mapping vram palette oam s line column =
-    affineColor reading mapping vram palette (matrix oam (s .«affine_index»)) s line column
+    affineObjColor reading mapping vram palette (matrix oam (s .«affine_index»)) s line column
 typedColor ObjType.Hidden reading mapping vram palette oam s line column = transparent
 typedColor ObjType.AffineDoubleSize reading mapping vram palette oam s line column =
-    affineColor reading mapping vram palette (matrix oam (s .«affine_index»)) s line column
+    affineObjColor reading mapping vram palette (matrix oam (s .«affine_index»)) s line column
 
 -- The pixel of sprite n at a column of a line: transparent where it has none.
 unfoldable pub spriteColor : Reading → Source → ℕ → ℕ → ℕ → ℕ

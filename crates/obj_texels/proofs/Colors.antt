@@ -15,9 +15,8 @@ use Rattle.regs.specs.declared.reading.Reading.{Reading}
 use Rattle.obj_sprites.specs.Oam.{Matrix}
 use Rattle.obj_sprites.specs.Place.{boxWidth, boxHeight, left, below}
 use Rattle.obj_sprites.specs.Tiles.{texel}
-use Rattle.obj_sprites.specs.Color.{flip, normalColor, colorAt, affineColor}
-use Rattle.obj_texels.specs.Row.{pointColor}
-use Rattle.obj_texels.specs.Turn.{TurnOf}
+use Rattle.obj_sprites.specs.Color.{flip, normalColor, colorAt, affineObjColor}
+use Rattle.obj_texels.specs.Code.{pointColor, TurnOf}
 use Rattle.obj_texels.specs.declared.affine.Turn.{Turn}
 use Rattle.obj_sprites.specs.declared.attrs.ObjAttrs.{ObjAttrs}
 use Rattle.obj_sprites.proofs.Places.{across-above, across-between}
@@ -44,11 +43,11 @@ module _ (reading : Reading) (mapping : ObjMapping) (vram palette : List ℕ) (s
 
     module _ (m : Matrix) (t : Turn) (turn-is : TurnOf m s (below reading s line -ℤ pos (boxHeight s / 2)) t) where
       -- A column of an affine sprite's box.
-      pub affineColor-inside : (column : ℕ) → boxWidth s ≤ 128 → l ≤ column + 272 → column + 272 < l + boxWidth s
+      pub affineObjColor-inside : (column : ℕ) → boxWidth s ≤ 128 → l ≤ column + 272 → column + 272 < l + boxWidth s
           → pointColor reading mapping vram palette s t (column + 272 - l)
-          ≡ affineColor reading mapping vram palette m s line column
-      unfolding affineColor within
-      affineColor-inside column box≤ h u =
+          ≡ affineObjColor reading mapping vram palette m s line column
+      unfolding affineObjColor within
+      affineObjColor-inside column box≤ h u =
           let i = column + 272 - l in
           let i≤ : i ≤ 127 = omega arith in
           let inside : ltb (column + 272 - l) (boxWidth s) ≡ true
@@ -57,9 +56,9 @@ module _ (reading : Reading) (mapping : ObjMapping) (vram palette : List ℕ) (s
           (ap₂ (colorAt reading mapping vram palette s) (sym (turn-is .x-is i i≤)) (sym (turn-is .y-is i i≤)))
 
     -- No other column has a pixel.
-    pub affineColor-outside : (m : Matrix) {start end : ℕ} → start ≡ l - 272 → end ≡ min 240 (l + boxWidth s - 272)
+    pub affineObjColor-outside : (m : Matrix) {start end : ℕ} → start ≡ l - 272 → end ≡ min 240 (l + boxWidth s - 272)
         → (column : ℕ) → column < 240 → between start end column ≡ false
-        → affineColor reading mapping vram palette m s line column ≡ transparent
-    unfolding affineColor
-    affineColor-outside m start-is end-is column column< out =
+        → affineObjColor reading mapping vram palette m s line column ≡ transparent
+    unfolding affineObjColor
+    affineObjColor-outside m start-is end-is column column< out =
         rw (sym (across-between reading s l left-is (boxWidth s) column column< start-is end-is) ∙ out)

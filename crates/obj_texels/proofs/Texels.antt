@@ -27,12 +27,11 @@ use Rattle.regs.specs.declared.reading.Reading.{Reading}
 use Rattle.obj_sprites.specs.Oam.{Matrix}
 use Rattle.obj_sprites.specs.Place.{boxWidth, boxHeight, left, below}
 use Rattle.obj_sprites.specs.Tiles.{tileAt, texel}
-use Rattle.obj_sprites.specs.Color.{flip, normalColor, affineColor}
+use Rattle.obj_sprites.specs.Color.{flip, normalColor, affineObjColor}
 use Rattle.obj_sprites.specs.declared.attrs.ObjAttrs.{ObjAttrs}
-use Rattle.obj_texels.specs.Row.{rowTexel, pointColor, affineTexel}
-use Rattle.obj_texels.specs.Turn.{TurnOf}
+use Rattle.obj_texels.specs.Code.{rowTexel, pointColor, affineTexel, TurnOf}
 use Rattle.obj_texels.specs.declared.affine.Turn.{Turn}
-use Rattle.obj_texels.proofs.Colors.{normalColor-inside, affineColor-inside}
+use Rattle.obj_texels.proofs.Colors.{normalColor-inside, affineObjColor-inside}
 
 -- ---- places that are flipped
 
@@ -212,16 +211,16 @@ module _ (reading : Reading) (mapping : ObjMapping) (vram palette : List ℕ) (s
       rgb-cond false a = refl
 
   -- A column of the box, by the row of colours.
-  pub affineColor-row : (line l : ℕ) → left reading s ≡ subℕ l 272
+  pub affineObjColor-row : (line l : ℕ) → left reading s ≡ subℕ l 272
       → (m : Matrix) → TurnOf m s (below reading s line -ℤ pos (boxHeight s / 2)) t → boxWidth s ≤ 128
       → (from to column : ℕ) (colors : List Rgb15)
       → colors ≡ tab (λ i. rgb (affineTexel reading mapping vram palette s t from to i)) 128
       → l ≤ column + 272 → column + 272 < l + boxWidth s → from ≤ column + 272 - l → column + 272 - l < to
-      → getD colors (column + 272 - l) (rgb 0) .0 ≡ affineColor reading mapping vram palette m s line column
-  affineColor-row line l left-is m turn-is box≤ from to column colors colors-are h u i≥ i< =
+      → getD colors (column + 272 - l) (rgb 0) .0 ≡ affineObjColor reading mapping vram palette m s line column
+  affineObjColor-row line l left-is m turn-is box≤ from to column colors colors-are h u i≥ i< =
       ap (λ c. c .0)
       (getD-of-tab
       (λ i. rgb (affineTexel reading mapping vram palette s t from to i)) 128 (column + 272 - l) (rgb 0) colors-are
       (omega arith))
       ∙ affineTexel-inside from to (column + 272 - l) i≥ i<
-      ∙ affineColor-inside reading mapping vram palette s line l left-is m t turn-is column box≤ h u
+      ∙ affineObjColor-inside reading mapping vram palette s line l left-is m t turn-is column box≤ h u

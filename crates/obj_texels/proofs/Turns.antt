@@ -9,7 +9,7 @@ use Rattle.signed.proofs.Point.{turn-cross}
 use Rattle.obj_sprites.specs.Oam.{Matrix}
 use Rattle.obj_sprites.specs.Place.{boxWidth}
 use Rattle.obj_sprites.specs.Color.{turn}
-use Rattle.obj_texels.specs.Turn.{MatrixOf, pointAt, StartOf, TurnOf}
+use Rattle.obj_texels.specs.Code.{MatrixOf, pointAt, StartOf, TurnOf}
 use Rattle.obj_texels.specs.declared.affine.AffineMatrix.{AffineMatrix}
 use Rattle.obj_sprites.specs.declared.attrs.ObjAttrs.{ObjAttrs}
 

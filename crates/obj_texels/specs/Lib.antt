@@ -1,3 +1,2 @@
 -- The rows of sprites' colours and the points of affine ones, as code has them. Assumes nothing.
-pub mod Row
-pub mod Turn
+pub mod Code

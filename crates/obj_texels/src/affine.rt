@@ -11,16 +11,15 @@ ghost use Rattle.rows.specs.Tab.{tab};
 ghost use Rattle.obj_sprites.specs.Oam.{matrix};
 ghost use Rattle.obj_sprites.specs.Attrs.{Decoded};
 ghost use Rattle.obj_sprites.specs.Place.{boxHeight, below, onLine};
-ghost use Rattle.obj_texels.specs.Turn.{MatrixOf, StartOf, Ranged, TurnOf, pointAt};
-ghost use Rattle.obj_texels.specs.Row.{pointColor, affineTexel};
+ghost use Rattle.obj_texels.specs.Code.{MatrixOf, StartOf, Ranged, TurnOf, pointAt, pointColor, affineTexel};
 use memory::read_16;
+use obj_sprites::ObjAttrs;
+use obj_sprites::is_inside;
+use obj_sprites::read_texel;
 use regs::ObjMapping;
 use regs::Reading;
 use rgb15::Rgb15;
 use signed::lift_half;
-use obj_sprites::ObjAttrs;
-use obj_sprites::is_inside;
-use obj_sprites::read_texel;
 
 const AFFINE_FILL: usize = 2 * 3;
 

@@ -11,14 +11,14 @@ ghost use Rattle.rows.specs.Tab.{tab};
 ghost use Rattle.obj_sprites.specs.Attrs.{Decoded};
 ghost use Rattle.obj_sprites.specs.Tiles.{texel};
 ghost use Rattle.obj_sprites.specs.Color.{flip};
-ghost use Rattle.obj_texels.specs.Row.{rowTexel};
+ghost use Rattle.obj_texels.specs.Code.{rowTexel};
 use memory::PixelFormat;
-use regs::ObjMapping;
-use regs::Reading;
-use rgb15::Rgb15;
 use obj_sprites::ObjAttrs;
 use obj_sprites::PALRAM_OFS_FG;
 use obj_sprites::flip;
+use regs::ObjMapping;
+use regs::Reading;
+use rgb15::Rgb15;
 use tiles::flip_row;
 use tiles::tile_color;
 

@@ -17,12 +17,12 @@ use borrow.Author.Tests.{eq-eqb, eqb-true}
 use Rattle.rows.specs.Below.{tally, countBelow}
 use Rattle.rows.specs.Marks.{marked, withMark, markAll, countMarks, Clean}
 use Rattle.rows.proofs.Below.{below-suc, tally-none, tally-add, tally-cong, countBelow-full, countBelow-put}
-use Rattle.rows.proofs.Bits.{bitOf, bitOf-bound, bitOf-none, bitOf-set-same, bitOf-set-other, bitOr-same, ones-tally}
+use Rattle.rows.proofs.Bits.{bitAt, bitAt-bound, bitAt-none, bitAt-set-same, bitAt-set-other, bitOr-same, ones-tally}
 
 -- ---- one mark
 
-pub marked-is : (ws : List ℕ) (k : ℕ) → marked ws k ≡ eqb (bitOf (getD ws (k / 64) 0) (k % 64)) 1
-unfolding marked bitOf
+pub marked-is : (ws : List ℕ) (k : ℕ) → marked ws k ≡ eqb (bitAt (getD ws (k / 64) 0) (k % 64)) 1
+unfolding marked bitAt
 marked-is ws k = refl
 
 pub length-withMark : (ws : List ℕ) (k : ℕ) → length (withMark ws k) ≡ length ws
@@ -33,7 +33,7 @@ length-withMark ws k = length-set ws (k / 64) _
 pub withMark-same : (ws : List ℕ) (k : ℕ) → marked ws k ≡ true → withMark ws k ≡ ws
 unfolding withMark
 withMark-same ws k e =
-    let b : bitOf (getD ws (k / 64) 0) (k % 64) ≡ 1 = eqb-true _ 1 (sym (marked-is ws k) ∙ e) in
+    let b : bitAt (getD ws (k / 64) 0) (k % 64) ≡ 1 = eqb-true _ 1 (sym (marked-is ws k) ∙ e) in
     ap (set ws (k / 64)) (bitOr-same (getD ws (k / 64) 0) (k % 64) b) ∙ set-getD ws (k / 64) 0
 
 module _ (ws : List ℕ) (k : ℕ) (size : length ws ≡ 4) (column : k < 240) where
@@ -48,21 +48,21 @@ module _ (ws : List ℕ) (k : ℕ) (size : length ws ≡ 4) (column : k < 240) w
   pub marked-withMark-same : marked (withMark ws k) k ≡ true
   marked-withMark-same =
       marked-is (withMark ws k) k
-      ∙ eq-eqb _ 1 (ap (λ (w : ℕ). bitOf w (k % 64)) word-same ∙ bitOf-set-same (getD ws (k / 64) 0) (k % 64))
+      ∙ eq-eqb _ 1 (ap (λ (w : ℕ). bitAt w (k % 64)) word-same ∙ bitAt-set-same (getD ws (k / 64) 0) (k % 64))
 
-  bitOf-withMark-other : (j : ℕ) → (j ≡ k → ⊥) → Dec (j / 64 ≡ k / 64)
-      → bitOf (getD (withMark ws k) (j / 64) 0) (j % 64) ≡ bitOf (getD ws (j / 64) 0) (j % 64)
-  bitOf-withMark-other j h (yes e) =
-      ap (λ (i : ℕ). bitOf (getD (withMark ws k) i 0) (j % 64)) e
-      ∙ ap (λ (w : ℕ). bitOf w (j % 64)) word-same
-      ∙ bitOf-set-other (getD ws (k / 64) 0) (k % 64) (j % 64) (omega arith)
-      ∙ ap (λ (i : ℕ). bitOf (getD ws i 0) (j % 64)) (sym e)
-  bitOf-withMark-other j h (no d) = ap (λ (w : ℕ). bitOf w (j % 64)) (word-other (j / 64) d)
+  bitAt-withMark-other : (j : ℕ) → (j ≡ k → ⊥) → Dec (j / 64 ≡ k / 64)
+      → bitAt (getD (withMark ws k) (j / 64) 0) (j % 64) ≡ bitAt (getD ws (j / 64) 0) (j % 64)
+  bitAt-withMark-other j h (yes e) =
+      ap (λ (i : ℕ). bitAt (getD (withMark ws k) i 0) (j % 64)) e
+      ∙ ap (λ (w : ℕ). bitAt w (j % 64)) word-same
+      ∙ bitAt-set-other (getD ws (k / 64) 0) (k % 64) (j % 64) (omega arith)
+      ∙ ap (λ (i : ℕ). bitAt (getD ws i 0) (j % 64)) (sym e)
+  bitAt-withMark-other j h (no d) = ap (λ (w : ℕ). bitAt w (j % 64)) (word-other (j / 64) d)
 
   pub marked-withMark-other : (j : ℕ) → (j ≡ k → ⊥) → marked (withMark ws k) j ≡ marked ws j
   marked-withMark-other j h =
       marked-is (withMark ws k) j
-      ∙ ap (λ (b : ℕ). eqb b 1) (bitOf-withMark-other j h (ℕ-discrete (j / 64) (k / 64)))
+      ∙ ap (λ (b : ℕ). eqb b 1) (bitAt-withMark-other j h (ℕ-discrete (j / 64) (k / 64)))
       ∙ sym (marked-is ws j)
 
   clean-withMark-word : Clean ws → Dec (3 ≡ k / 64) → Clean (withMark ws k)
@@ -94,8 +94,8 @@ getD-none (suc n) (suc i) = getD-none n i
 pub marked-none : (k : ℕ) → marked (replicate 4 0) k ≡ false
 marked-none k =
     marked-is (replicate 4 0) k
-    ∙ ap (λ (w : ℕ). eqb (bitOf w (k % 64)) 1) (getD-none 4 (k / 64))
-    ∙ ap (λ (b : ℕ). eqb b 1) (bitOf-none (k % 64))
+    ∙ ap (λ (w : ℕ). eqb (bitAt w (k % 64)) 1) (getD-none 4 (k / 64))
+    ∙ ap (λ (b : ℕ). eqb b 1) (bitAt-none (k % 64))
 
 pub clean-none : Clean (replicate 4 0)
 clean-none = omega arith
@@ -115,7 +115,7 @@ ones-word ws i n h few =
     ∙ tally-cong _ _ n (λ k lt.
     let d : (64 * i + k) / 64 ≡ i = omega arith in
     let m : (64 * i + k) % 64 ≡ k = omega arith in
-    cond-bit (bitOf (getD ws i 0) k) (bitOf-bound (getD ws i 0) k)
+    cond-bit (bitAt (getD ws i 0) k) (bitAt-bound (getD ws i 0) k)
     ∙ ap (λ (b : Bool). cond b 1 0) (sym (rw (d, m) at (marked-is ws (64 * i + k)))))
 
 tally-words : (f : ℕ → ℕ)

@@ -5,3 +5,4 @@ pub mod Words
 pub mod Tab
 pub mod Below
 pub mod Marks
+pub mod Answer

@@ -17,20 +17,19 @@ use Rattle.regs.specs.declared.reading.Reading.{Reading}
 use Rattle.obj_entries.specs.Entry.{entryCells, semiMark}
 use Rattle.obj_entries.specs.declared.Entry.{Entry}
 use Rattle.sfx_regions.specs.Region.{permitted}
-use Rattle.sfx_regions.specs.Row.{regionAt}
+use Rattle.sfx_regions.specs.Code.{regionAt}
 use Rattle.sfx_regions.specs.declared.WindowType.{WindowType}
 use Rattle.sfx_sorting.specs.Ordered.{ordered}
-use Rattle.sfx_sorting.specs.Places.{places}
+use Rattle.sfx_sorting.specs.Code.{places}
 use Rattle.sfx_layers.specs.Layers.{Pair, backgrounds, layers}
-use Rattle.sfx_layers.specs.Places.{lineColor, placedLayers}
-use Rattle.sfx_layers.specs.Words.{objectTag, regionWord, columnRegion, LineLayersOf}
+use Rattle.sfx_layers.specs.Code.{lineColor, placedLayers, objectTag, regionWord, columnRegion, LineLayersOf}
 use Rattle.sfx_layers.specs.declared.layer.LineLayers.{LineLayers}
 use Rattle.sfx_layers.proofs.Columns.{placedColors, column-pair, region-bits}
-use Rattle.sfx_effects.specs.Words.{WeightsOf}
+use Rattle.sfx_effects.specs.Code.{WeightsOf}
 use Rattle.sfx_effects.specs.declared.Weights.{Weights}
 use Rattle.sfx_effects.proofs.Colors.{pair-color}
 use Rattle.sfx.specs.Pixel.{caseIn, caseOf, caseColor, pixel}
-use Rattle.sfx.specs.Words.{columnColor, atColumn}
+use Rattle.sfx.specs.Code.{columnColor, atColumn}
 use Rattle.sfx.proofs.Lines.{placedLayers-lines}
 
 -- ---- a column's pixel

@@ -10,11 +10,11 @@ use Rattle.rgb15.specs.declared.Rgb15.{Rgb15}
 use Rattle.rows.specs.Tab.{tab}
 use Rattle.rows.proofs.Tab.{getD-tab}
 use Rattle.sfx_sorting.specs.Ordered.{ordered}
-use Rattle.sfx_sorting.specs.Places.{places}
+use Rattle.sfx_sorting.specs.Code.{places}
 use Rattle.sfx_layers.specs.Layers.{backgrounds}
-use Rattle.sfx_layers.specs.Places.{lineColor, placedLayers}
+use Rattle.sfx_layers.specs.Code.{lineColor, placedLayers}
 use Rattle.sfx_layers.proofs.Places.{placedLayers-ordered}
-use Rattle.sfx.specs.Lines.{bgLine}
+use Rattle.sfx.specs.Code.{bgLine}
 
 -- ---- the line of a background
 

@@ -14,13 +14,12 @@ use Rattle.rows.specs.Below.{allBelow, tally}
 use Rattle.rows.specs.Tab.{tab}
 use Rattle.rows.proofs.Below.{allBelow-at, allBelow-tally}
 use Rattle.rows.proofs.Tab.{tab-cong}
-use Rattle.sfx_layers.specs.Places.{lineColor}
-use Rattle.sfx_layers.specs.Words.{Unmarked}
+use Rattle.sfx_layers.specs.Code.{lineColor, Unmarked}
 use Rattle.sfx_layers.specs.declared.layer.LineLayers.{LineLayers}
 use Rattle.sfx_layers.proofs.Marks.{top-plain}
 use Rattle.sfx_effects.specs.declared.Weights.{Weights}
 use Rattle.sfx_effects.proofs.Colors.{pairColor-top}
-use Rattle.sfx.specs.Words.{columnColor, topColor, atColumn}
+use Rattle.sfx.specs.Code.{columnColor, topColor, atColumn}
 
 -- ---- a column
 

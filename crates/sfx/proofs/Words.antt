@@ -7,13 +7,12 @@ use lib.ListN.{getD}
 use Rattle.bits.specs.Bits.{bit}
 use Rattle.rgb15.specs.Colour.{rgb}
 use Rattle.rgb15.specs.declared.Rgb15.{Rgb15}
-use Rattle.sfx_layers.specs.Places.{lineColor}
-use Rattle.sfx_layers.specs.Words.{putObject, backgroundPair}
+use Rattle.sfx_layers.specs.Code.{lineColor, putObject, backgroundPair}
 use Rattle.sfx_layers.specs.declared.layer.LayerPair.{LayerPair}
 use Rattle.sfx_layers.specs.declared.layer.LineLayers.{LineLayers}
-use Rattle.sfx_effects.specs.Words.{fadedColor, pairColor}
+use Rattle.sfx_effects.specs.Code.{fadedColor, pairColor}
 use Rattle.sfx_effects.specs.declared.Weights.{Weights}
-use Rattle.sfx.specs.Words.{columnColor, topColor, atColumn}
+use Rattle.sfx.specs.Code.{columnColor, topColor, atColumn}
 
 -- ---- a column
 

@@ -17,11 +17,11 @@ use Rattle.regs_blend.specs.Blend.{target1, target2, blendMode}
 use Rattle.regs_blend.specs.declared.BlendMode.{BlendMode}
 use Rattle.regs_blend.specs.declared.BlendMode.the-variants.{BldNone, BldAlpha, BldWhite, BldBlack}
 use Rattle.sfx_layers.specs.Layers.{Pair, isObject}
-use Rattle.sfx_layers.specs.Words.{modeNumber}
+use Rattle.sfx_layers.specs.Code.{modeNumber}
 use Rattle.sfx_layers.specs.declared.layer.LayerPair.{LayerPair}
 use Rattle.sfx_layers.proofs.Columns.{pairOf, first-of, second-of, semi-of}
 use Rattle.sfx_effects.specs.Effects.{none, spriteBlend, controlEffect, effect, alpha, fade, effectColor}
-use Rattle.sfx_effects.specs.Words.{isBlended, isFaded, fadeColor, fadeWeight, fadedColor, pairColor, WeightsOf}
+use Rattle.sfx_effects.specs.Code.{isBlended, isFaded, fadeColor, fadeWeight, fadedColor, pairColor, WeightsOf}
 use Rattle.sfx_effects.specs.declared.Weights.{Weights}
 
 -- The colour of two, by whether they are blended and whether the top is faded.

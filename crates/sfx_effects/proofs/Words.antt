@@ -12,7 +12,7 @@ use Rattle.regs.specs.declared.reading.Reading.{Reading}
 use Rattle.regs_blend.specs.Blend.{BlendAlphaOf}
 use Rattle.regs_blend.specs.declared.BlendAlpha.{BlendAlpha}
 use Rattle.sfx_layers.specs.declared.layer.LayerPair.{LayerPair}
-use Rattle.sfx_effects.specs.Words.{isBlended, isFaded, WeightsOf, Weighed, fadeColor, fadeWeight, fadedColor, pairColor}
+use Rattle.sfx_effects.specs.Code.{isBlended, isFaded, WeightsOf, Weighed, fadeColor, fadeWeight, fadedColor, pairColor}
 use Rattle.sfx_effects.specs.declared.Weights.{Weights}
 
 module _ {w : Weights} (w≤ : Weighed w) (mode : ℕ) (permitted : Bool) where

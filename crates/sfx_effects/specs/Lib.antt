@@ -1,3 +1,3 @@
 -- What effects make of two layers. Assumes nothing.
 pub mod Effects
-pub mod Words
+pub mod Code

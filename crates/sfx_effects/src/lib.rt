@@ -5,16 +5,16 @@ ghost use lib.ListN.{length};
 ghost use Rattle.memory.specs.Sizes.{registersSize};
 ghost use Rattle.regs.specs.Registers.{bldy};
 ghost use Rattle.regs.specs.Reading.{counted};
-ghost use Rattle.sfx_effects.specs.Words.{WeightsOf, Weighed, isBlended, isFaded, fadeColor, fadeWeight, fadedColor, pairColor};
+ghost use Rattle.sfx_effects.specs.Code.{WeightsOf, Weighed, isBlended, isFaded, fadeColor, fadeWeight, fadedColor, pairColor};
+use regs::Reading;
 use regs_blend::read_bldalpha;
 use regs_blend::read_bldy;
+use rgb15::Rgb15;
 use sfx_layers::FIRST_TARGET;
 use sfx_layers::LayerPair;
 use sfx_layers::SECOND_TARGET;
 use sfx_layers::SEMI_OBJECT;
 use sfx_layers::choose;
-use regs::Reading;
-use rgb15::Rgb15;
 
 // The weights of a line's blends, as its reading counts them.
 pub struct Weights {

@@ -25,90 +25,88 @@ use Rattle.regs_blend.proofs.Laws.{layerBit-background}
 use Rattle.obj_entries.specs.Entry.{semiMark}
 use Rattle.obj_entries.specs.declared.Entry.{Entry}
 use Rattle.sfx_regions.specs.Region.{permitted}
-use Rattle.sfx_regions.specs.Row.{wordIn, regionRow}
+use Rattle.sfx_regions.specs.Code.{wordIn, regionRow}
 use Rattle.sfx_regions.specs.declared.WindowType.{WindowType}
 use Rattle.sfx_regions.specs.declared.WindowType.the-variants.{Win0, Win1, WinObj, WinOut, WinNone}
 use Rattle.sfx_sorting.specs.Ordered.{keep}
 use Rattle.sfx_layers.specs.Layers.{Layer, Pair, isObject, background, backdropLayer, objectLayer}
 use Rattle.sfx_layers.specs.Layers.{counts, objectCounts, firstTwo, placed, layers}
-use Rattle.sfx_layers.specs.Places.{placedLayer}
-use Rattle.sfx_layers.specs.Words.{bitOf, layerTag, objectTag, tagPriority, placeTag, permitsPlace, regionWord, columnRegion}
-use Rattle.sfx_layers.specs.Words.{putBackground, backgroundPair, putObject, LineLayersOf}
+use Rattle.sfx_layers.specs.Code.{placedLayer, asBit, layerTag, objectTag, tagPriority, placeTag, permitsPlace, regionWord, columnRegion, putBackground, backgroundPair, putObject, LineLayersOf}
 use Rattle.sfx_layers.specs.declared.layer.LayerPair.{LayerPair}
 use Rattle.sfx_layers.specs.declared.layer.LineLayers.{LineLayers}
-use Rattle.sfx_layers.proofs.Words.{bitOf-bound}
+use Rattle.sfx_layers.proofs.Words.{asBit-bound}
 
 -- ---- bits
 
-eqb-bitOf : (t : Bool) → eqb (bitOf t) 1 ≡ t
-eqb-bitOf true = refl
-eqb-bitOf false = refl
+eqb-asBit : (t : Bool) → eqb (asBit t) 1 ≡ t
+eqb-asBit true = refl
+eqb-asBit false = refl
 
-bit-is : {n : ℕ} (t : Bool) → n ≡ bitOf t → eqb n 1 ≡ t
-bit-is t e = ap (λ n. eqb n 1) e ∙ eqb-bitOf t
+bit-is : {n : ℕ} (t : Bool) → n ≡ asBit t → eqb n 1 ≡ t
+bit-is t e = ap (λ n. eqb n 1) e ∙ eqb-asBit t
 
-bitOf-eqb : (n : ℕ) → n < 2 → bitOf (eqb n 1) ≡ n
-bitOf-eqb zero h = refl
-bitOf-eqb (suc zero) h = refl
-bitOf-eqb (suc (suc n)) h = absurd (omega arith)
+asBit-eqb : (n : ℕ) → n < 2 → asBit (eqb n 1) ≡ n
+asBit-eqb zero h = refl
+asBit-eqb (suc zero) h = refl
+asBit-eqb (suc (suc n)) h = absurd (omega arith)
 
-bitOf-mark : (marks : ℕ) → bitOf (bit 0 marks) ≡ marks % 2
-bitOf-mark marks = bitOf-eqb (marks / 1 % 2) (omega arith) ∙ omega arith
+asBit-mark : (marks : ℕ) → asBit (bit 0 marks) ≡ marks % 2
+asBit-mark marks = asBit-eqb (marks / 1 % 2) (omega arith) ∙ omega arith
 
 -- ---- the tag of a layer
 
 -- The parts of a tag.
 module _ (priority : ℕ) (first second semi : Bool) where
   tag : ℕ
-  tag = bitOf first + 2 * bitOf second + 8 * priority + 4 * bitOf semi
+  tag = asBit first + 2 * asBit second + 8 * priority + 4 * asBit semi
 
   tag-first : bit 0 tag ≡ first
   unfolding tag
-  tag-first = let e : tag / 1 % 2 ≡ bitOf first = omega (arith, bitOf-bound first) in bit-is first e
+  tag-first = let e : tag / 1 % 2 ≡ asBit first = omega (arith, asBit-bound first) in bit-is first e
 
   tag-second : bit 1 tag ≡ second
   unfolding tag
   tag-second =
-      let e : tag / 2 % 2 ≡ bitOf second = omega (arith, bitOf-bound first, bitOf-bound second) in
+      let e : tag / 2 % 2 ≡ asBit second = omega (arith, asBit-bound first, asBit-bound second) in
       bit-is second e
 
   tag-semi : bit 2 tag ≡ semi
   unfolding tag
   tag-semi =
-      let e : tag / 4 % 2 ≡ bitOf semi = omega (arith, bitOf-bound first, bitOf-bound second, bitOf-bound semi) in
+      let e : tag / 4 % 2 ≡ asBit semi = omega (arith, asBit-bound first, asBit-bound second, asBit-bound semi) in
       bit-is semi e
 
   tag-priority : tagPriority tag ≡ priority
   unfolding tag
-  tag-priority = omega (arith, bitOf-bound first, bitOf-bound second, bitOf-bound semi)
+  tag-priority = omega (arith, asBit-bound first, asBit-bound second, asBit-bound semi)
 
 -- ---- the word of a region
 
 -- The bits of a region's word.
 module _ (a b c d objects effects : Bool) where
   six : ℕ
-  six = bitOf a + 2 * bitOf b + 4 * bitOf c + 8 * bitOf d + 16 * bitOf objects + 32 * bitOf effects
+  six = asBit a + 2 * asBit b + 4 * asBit c + 8 * asBit d + 16 * asBit objects + 32 * asBit effects
 
   six-bits : (bit 0 six ≡ a) × (bit 1 six ≡ b) × (bit 2 six ≡ c) × (bit 3 six ≡ d) × (bit 4 six ≡ objects) × (bit 5 six ≡ effects)
   unfolding six
   six-bits =
-      let a≤ = bitOf-bound a in
-      let b≤ = bitOf-bound b in
-      let c≤ = bitOf-bound c in
-      let d≤ = bitOf-bound d in
-      let objects≤ = bitOf-bound objects in
-      let effects≤ = bitOf-bound effects in
-      let halves : six / 2 ≡ bitOf b + 2 * bitOf c + 4 * bitOf d + 8 * bitOf objects + 16 * bitOf effects = omega arith in
-      let fourths : six / 4 ≡ bitOf c + 2 * bitOf d + 4 * bitOf objects + 8 * bitOf effects = omega arith in
-      let eighths : six / 8 ≡ bitOf d + 2 * bitOf objects + 4 * bitOf effects = omega arith in
-      let sixteenths : six / 16 ≡ bitOf objects + 2 * bitOf effects = omega arith in
-      let first : six / 1 % 2 ≡ bitOf a = omega arith in
-      let second : six / 2 % 2 ≡ bitOf b = rw halves (omega arith) in
-      let third : six / 4 % 2 ≡ bitOf c = rw fourths (omega arith) in
-      let fourth : six / 8 % 2 ≡ bitOf d = rw eighths (omega arith) in
-      let fifth : six / 16 % 2 ≡ bitOf objects = rw sixteenths (omega arith) in
-      let thirtyseconds : six / 32 ≡ bitOf effects = omega arith in
-      let sixth : six / 32 % 2 ≡ bitOf effects = rw thirtyseconds (omega arith) in
+      let a≤ = asBit-bound a in
+      let b≤ = asBit-bound b in
+      let c≤ = asBit-bound c in
+      let d≤ = asBit-bound d in
+      let objects≤ = asBit-bound objects in
+      let effects≤ = asBit-bound effects in
+      let halves : six / 2 ≡ asBit b + 2 * asBit c + 4 * asBit d + 8 * asBit objects + 16 * asBit effects = omega arith in
+      let fourths : six / 4 ≡ asBit c + 2 * asBit d + 4 * asBit objects + 8 * asBit effects = omega arith in
+      let eighths : six / 8 ≡ asBit d + 2 * asBit objects + 4 * asBit effects = omega arith in
+      let sixteenths : six / 16 ≡ asBit objects + 2 * asBit effects = omega arith in
+      let first : six / 1 % 2 ≡ asBit a = omega arith in
+      let second : six / 2 % 2 ≡ asBit b = rw halves (omega arith) in
+      let third : six / 4 % 2 ≡ asBit c = rw fourths (omega arith) in
+      let fourth : six / 8 % 2 ≡ asBit d = rw eighths (omega arith) in
+      let fifth : six / 16 % 2 ≡ asBit objects = rw sixteenths (omega arith) in
+      let thirtyseconds : six / 32 ≡ asBit effects = omega arith in
+      let sixth : six / 32 % 2 ≡ asBit effects = rw thirtyseconds (omega arith) in
       (bit-is a first, bit-is b second, bit-is c third, bit-is d fourth, bit-is objects fifth, bit-is effects sixth)
 
 -- ---- layers as code has them
@@ -234,7 +232,7 @@ module _ (registers : List ℕ) (semi : Bool) where
   tag-of-object : (e : Entry) → semi ≡ semiMark e
       → objectTag (layerTag (target1 (bldcnt registers)) (target2 (bldcnt registers)) Objects 0) e ≡ tagOf (objectLayer e)
   unfolding layerTag tagOf tag
-  tag-of-object e semi-is = rw semi-is (omega (arith, bitOf-mark (e .marks)))
+  tag-of-object e semi-is = rw semi-is (omega (arith, asBit-mark (e .marks)))
 
   -- An object in its place, if it is permitted and opaque.
   place-object : (object : Layer) (permitted : Bool) (p : Pair)

@@ -13,10 +13,9 @@ use Rattle.regs_blend.specs.Layers.{backgroundLayer, targets}
 use Rattle.regs_blend.specs.Blend.{target1, target2}
 use Rattle.regs_blend.specs.declared.layer.RenderLayerKind.{RenderLayerKind}
 use Rattle.regs_blend.specs.declared.layer.RenderLayerKind.the-variants.{Objects}
-use Rattle.sfx_layers.specs.Words.{layerTag, placeTag, shows, goesOver, putBackground, backgroundPair, putObject}
-use Rattle.sfx_layers.specs.Words.{LineLayersOf, Unmarked}
+use Rattle.sfx_layers.specs.Code.{layerTag, placeTag, shows, goesOver, putBackground, backgroundPair, putObject, LineLayersOf, Unmarked}
 use Rattle.sfx_layers.specs.declared.layer.LineLayers.{LineLayers}
-use Rattle.sfx_layers.proofs.Words.{bitOf-bound}
+use Rattle.sfx_layers.proofs.Words.{asBit-bound}
 
 -- ---- a line
 
@@ -24,7 +23,7 @@ layerTag-plain : (first second priority : ℕ) (kind : RenderLayerKind) → bit 
 unfolding layerTag
 layerTag-plain first second priority kind =
     let e : layerTag first second kind priority / 4 % 2 ≡ 0 =
-    omega (arith, bitOf-bound (targets first kind), bitOf-bound (targets second kind)) in
+    omega (arith, asBit-bound (targets first kind), asBit-bound (targets second kind)) in
     ap (λ n. eqb n 1) e
 
 placeTag-plain : (registers : List ℕ) (first second place : ℕ) → bit 2 (placeTag registers first second place) ≡ false
@@ -51,8 +50,8 @@ module _ {palette registers at : List ℕ} {l : LineLayers} (l-is : LineLayersOf
   pub object-bound : l .object ≤ 3
   unfolding layerTag
   object-bound =
-      let first≤ = bitOf-bound (targets (target1 (bldcnt registers)) Objects) in
-      let second≤ = bitOf-bound (targets (target2 (bldcnt registers)) Objects) in
+      let first≤ = asBit-bound (targets (target1 (bldcnt registers)) Objects) in
+      let second≤ = asBit-bound (targets (target2 (bldcnt registers)) Objects) in
       rw (l-is .object-is) (omega arith)
 
 -- ---- a column

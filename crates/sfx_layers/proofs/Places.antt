@@ -13,10 +13,10 @@ use Rattle.rgb15.specs.declared.Rgb15.{Rgb15}
 use Rattle.rows.specs.Tab.{tab}
 use Rattle.rows.proofs.Tab.{getD-of-tab}
 use Rattle.sfx_sorting.specs.Ordered.{ordered}
-use Rattle.sfx_sorting.specs.Places.{places}
+use Rattle.sfx_sorting.specs.Code.{places}
 use Rattle.sfx_sorting.proofs.Sorting.{small, length-ordered, small-ordered}
 use Rattle.sfx_layers.specs.Layers.{Layer, background, backgrounds}
-use Rattle.sfx_layers.specs.Places.{placedLayer, lineColor, placedLayers}
+use Rattle.sfx_layers.specs.Code.{placedLayer, lineColor, placedLayers}
 
 small-first : (bg : ℕ) (rest : List ℕ) → small (bg ∷ rest) ≡ true → ltb bg 4 ≡ true
 unfolding small

@@ -22,16 +22,15 @@ use Rattle.regs.specs.declared.BgControl.{BgControl}
 use Rattle.regs_blend.specs.declared.BlendControl.{BlendControl}
 use Rattle.regs_blend.specs.declared.layer.RenderLayerKind.{RenderLayerKind}
 use Rattle.regs_blend.specs.declared.layer.RenderLayerKind.the-variants.{Objects, Backdrop}
-use Rattle.sfx_layers.specs.Words.{bitOf, modeNumber, layerTag, tagPriority, placeTag, LineLayersOf}
-use Rattle.sfx_layers.specs.Words.{shows, putBackground, backgroundPair, putObject, permitsPlace, regionWord}
+use Rattle.sfx_layers.specs.Code.{asBit, modeNumber, layerTag, tagPriority, placeTag, LineLayersOf, shows, putBackground, backgroundPair, putObject, permitsPlace, regionWord}
 use Rattle.sfx_layers.specs.declared.layer.LayerPair.{LayerPair}
 use Rattle.sfx_layers.specs.declared.layer.LineLayers.{LineLayers}
 
 -- ---- bits
 
-pub bitOf-bound : (t : Bool) → bitOf t ≤ 1
-bitOf-bound true = omega arith
-bitOf-bound false = omega arith
+pub asBit-bound : (t : Bool) → asBit t ≤ 1
+asBit-bound true = omega arith
+asBit-bound false = omega arith
 
 -- A bit at its place, and bits side by side, fit a halfword.
 pub bit-fits : (place : ℕ) {b : ℕ} → place < 64 → b ≤ 1 → Fits w16 (place * b)
@@ -109,20 +108,20 @@ module _ (line : LineLayers) (region a b c d : ℕ) where
 -- ---- parts that calls give
 
 pub layerTag-is : (first second priority : ℕ) (kind : RenderLayerKind) {s t : Bool} {a b : ℕ}
-    → s ≡ targets first kind → a ≡ bitOf s → t ≡ targets second kind → b ≡ bitOf t
+    → s ≡ targets first kind → a ≡ asBit s → t ≡ targets second kind → b ≡ asBit t
     → a + 2 * b + 8 * priority ≡ layerTag first second kind priority
 unfolding layerTag
 layerTag-is first second priority kind s-is a-is t-is b-is = rw (a-is, s-is, b-is, t-is)
 
 pub regionWord-is : (at : List ℕ) (flags : ℕ) (objects : Bool) {a b c d e f : ℕ} {s t : Bool}
-    → a ≡ bitOf (permitsPlace flags (getD at 0 0))
-    → b ≡ bitOf (permitsPlace flags (getD at 1 0))
-    → c ≡ bitOf (permitsPlace flags (getD at 2 0))
-    → d ≡ bitOf (permitsPlace flags (getD at 3 0))
+    → a ≡ asBit (permitsPlace flags (getD at 0 0))
+    → b ≡ asBit (permitsPlace flags (getD at 1 0))
+    → c ≡ asBit (permitsPlace flags (getD at 2 0))
+    → d ≡ asBit (permitsPlace flags (getD at 3 0))
     → s ≡ permits flags 4
-    → e ≡ bitOf (s && objects)
+    → e ≡ asBit (s && objects)
     → t ≡ permits flags 5
-    → f ≡ bitOf t
+    → f ≡ asBit t
     → a + 2 * b + 4 * c + 8 * d + 16 * e + 32 * f ≡ regionWord objects at flags
 unfolding regionWord
 regionWord-is at flags objects a-is b-is c-is d-is s-is e-is t-is f-is =

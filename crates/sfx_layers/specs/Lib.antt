@@ -1,4 +1,3 @@
 -- What the two layers of a column are. Assumes nothing.
 pub mod Layers
-pub mod Places
-pub mod Words
+pub mod Code

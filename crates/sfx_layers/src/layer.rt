@@ -4,15 +4,14 @@ ghost use mathlib.Core.Bool.{cond};
 ghost use Prim.Native.Nat.{_≤_};
 ghost use lib.ListN.{length};
 ghost use Rattle.memory.specs.Sizes.{paletteRamSize, registersSize};
-ghost use Rattle.sfx_layers.specs.Words.{bitOf, layerTag, modeNumber, objectTag, placeTag, LineLayersOf};
-ghost use Rattle.sfx_layers.specs.Words.{shows, putBackground, backgroundPair, putObject};
+ghost use Rattle.sfx_layers.specs.Code.{asBit, layerTag, modeNumber, objectTag, placeTag, LineLayersOf, shows, putBackground, backgroundPair, putObject};
+use memory::read_backdrop;
+use obj_entries::Entry;
+use regs::iodev::read_bgcnt;
 use regs_blend::BlendControl;
 use regs_blend::BlendMode;
 use regs_blend::RenderLayerKind;
 use regs_blend::read_bldcnt;
-use obj_entries::Entry;
-use memory::read_backdrop;
-use regs::iodev::read_bgcnt;
 use rgb15::Rgb15;
 use sfx_sorting::NO_BACKGROUND;
 
@@ -50,7 +49,7 @@ pub struct LineLayers {
 
 // A truth value as a bit.
 pub(crate) fn bit_of(set: bool) -> u16
-    ensures { λ r. ⌜ (r ≡ bitOf set) × (r ≤ 1) ⌝ }
+    ensures { λ r. ⌜ (r ≡ asBit set) × (r ≤ 1) ⌝ }
 {
     if set { 1 } else { 0 }
 }

@@ -7,20 +7,20 @@ ghost use Rattle.rows.specs.Tab.{tab};
 ghost use Rattle.memory.specs.Sizes.{registersSize};
 ghost use Rattle.obj_entries.specs.Entry.{entriesSize};
 ghost use Rattle.sfx_regions.specs.Region.{permitted};
-ghost use Rattle.sfx_layers.specs.Words.{bitOf, permitsPlace, regionWord, columnRegion};
+ghost use Rattle.sfx_layers.specs.Code.{asBit, permitsPlace, regionWord, columnRegion};
 use crate::layer::bit_of;
 use regs::Reading;
 use regs::iodev::read_dispcnt;
-use sfx_sorting::NO_BACKGROUND;
 use regs_window::WindowFlags;
 use sfx_regions::RegionWords;
 use sfx_regions::WindowType;
 use sfx_regions::region_row;
 use sfx_regions::window_flags;
+use sfx_sorting::NO_BACKGROUND;
 
 // 1 if flags permit the background of a place and it has one, else 0.
 fn place_bit(flags: WindowFlags, place: usize) -> u16
-    ensures { λ r. ⌜ (r ≡ bitOf (permitsPlace (flags .0) place)) × (r ≤ 1) ⌝ }
+    ensures { λ r. ⌜ (r ≡ asBit (permitsPlace (flags .0) place)) × (r ≤ 1) ⌝ }
 {
     if place < NO_BACKGROUND {
         bit_of(flags.bg_enabled(place))

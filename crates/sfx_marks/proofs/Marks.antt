@@ -10,13 +10,13 @@ use lib.Dec.{eqb, leb·zero, leb·suc-suc}
 use lib.ListN.{getD}
 use lib.Pow.{pow-pos, pow-mono}
 use borrow.Author.Tests.{eq-eqb}
-use Rattle.signed.proofs.Order.{leb-same}
+use Rattle.bits.proofs.Booleans.{leb-same}
 use Rattle.rows.specs.Below.{between}
 use Rattle.rows.specs.Marks.{marked, Clean}
 use Rattle.rows.proofs.Below.{between-inside, between-before, between-past}
-use Rattle.rows.proofs.Bits.{bitOf, bitOf-zero, bitOf-suc, bitOf-none, bitOf-bound}
+use Rattle.rows.proofs.Bits.{bitAt, bitAt-zero, bitAt-suc, bitAt-none, bitAt-bound}
 use Rattle.rows.proofs.Marks.{marked-is}
-use Rattle.sfx_marks.specs.Marks.{Spanned, MarksOf, holds}
+use Rattle.sfx_marks.specs.Code.{Spanned, MarksOf, holds}
 use Rattle.sfx_marks.specs.declared.Columns.{Columns}
 
 -- ---- one bit
@@ -29,9 +29,9 @@ eqb-or (suc zero) (suc (suc b)) p q = absurd (omega arith)
 eqb-or (suc (suc a)) b p q = absurd (omega arith)
 
 -- A bit is set in one word or the other.
-bitOf-or : (a b i : ℕ) → eqb (bitOf (bitOr a b) i) 1 ≡ (eqb (bitOf a i) 1 || eqb (bitOf b i) 1)
-unfolding bitOf
-bitOf-or a b i =
+bitAt-or : (a b i : ℕ) → eqb (bitAt (bitOr a b) i) 1 ≡ (eqb (bitAt a i) 1 || eqb (bitAt b i) 1)
+unfolding bitAt
+bitAt-or a b i =
     ap (λ (n : ℕ). eqb n 1) (ap (λ (n : ℕ). n % 2) (or-shr a b i) ∙ or-mod (a / 2 ^ i) (b / 2 ^ i) 1)
     ∙ eqb-or (a / 2 ^ i % 2) (b / 2 ^ i % 2) (omega arith) (omega arith)
 
@@ -43,9 +43,9 @@ eqb-and (suc zero) (suc (suc b)) p q = absurd (omega arith)
 eqb-and (suc (suc a)) b p q = absurd (omega arith)
 
 -- A bit is set in both words.
-bitOf-and : (a b i : ℕ) → eqb (bitOf (bitAnd a b) i) 1 ≡ (eqb (bitOf a i) 1 && eqb (bitOf b i) 1)
-unfolding bitOf
-bitOf-and a b i =
+bitAt-and : (a b i : ℕ) → eqb (bitAt (bitAnd a b) i) 1 ≡ (eqb (bitAt a i) 1 && eqb (bitAt b i) 1)
+unfolding bitAt
+bitAt-and a b i =
     ap (λ (n : ℕ). eqb n 1) (ap (λ (n : ℕ). n % 2) (and-shr a b i) ∙ and-mod (a / 2 ^ i) (b / 2 ^ i) 1)
     ∙ eqb-and (a / 2 ^ i % 2) (b / 2 ^ i % 2) (omega arith) (omega arith)
 
@@ -53,15 +53,15 @@ half-not : (n a : ℕ) → a < 2 ^ suc n → ((2 ^ suc n - 1) - a) / 2 ≡ (2 ^ 
 half-not n a h = omega (arith, pow-suc 2 n)
 
 -- A bit of the complement of a word of n bits is the other one.
-bitOf-not : (n a i : ℕ) → a < 2 ^ n → i < n → bitOf ((2 ^ n - 1) - a) i ≡ 1 - bitOf a i
-bitOf-not zero a i h lt = absurd (omega arith)
-bitOf-not (suc n) a zero h lt =
-    omega (arith, bitOf-zero ((2 ^ suc n - 1) - a), bitOf-zero a, pow-suc 2 n)
-bitOf-not (suc n) a (suc i) h lt =
-    bitOf-suc ((2 ^ suc n - 1) - a) i
-    ∙ ap (λ (w : ℕ). bitOf w i) (half-not n a h)
-    ∙ bitOf-not n (a / 2) i (omega (arith, pow-suc 2 n)) (omega arith)
-    ∙ ap (λ (b : ℕ). 1 - b) (sym (bitOf-suc a i))
+bitAt-not : (n a i : ℕ) → a < 2 ^ n → i < n → bitAt ((2 ^ n - 1) - a) i ≡ 1 - bitAt a i
+bitAt-not zero a i h lt = absurd (omega arith)
+bitAt-not (suc n) a zero h lt =
+    omega (arith, bitAt-zero ((2 ^ suc n - 1) - a), bitAt-zero a, pow-suc 2 n)
+bitAt-not (suc n) a (suc i) h lt =
+    bitAt-suc ((2 ^ suc n - 1) - a) i
+    ∙ ap (λ (w : ℕ). bitAt w i) (half-not n a h)
+    ∙ bitAt-not n (a / 2) i (omega (arith, pow-suc 2 n)) (omega arith)
+    ∙ ap (λ (b : ℕ). 1 - b) (sym (bitAt-suc a i))
 
 eqb-not : (b : ℕ) → b < 2 → eqb (1 - b) 1 ≡ not (eqb b 1)
 eqb-not zero h = refl
@@ -82,28 +82,28 @@ between-zero right k =
 half-between : (left right : ℕ) → (2 ^ suc right - 2 ^ suc left) / 2 ≡ 2 ^ right - 2 ^ left
 half-between left right = omega (arith, pow-suc 2 left, pow-suc 2 right)
 
-even-between : (left right : ℕ) → bitOf (2 ^ suc right - 2 ^ suc left) 0 ≡ 0
-even-between left right = bitOf-zero (2 ^ suc right - 2 ^ suc left) ∙ omega (arith, pow-suc 2 left, pow-suc 2 right)
+even-between : (left right : ℕ) → bitAt (2 ^ suc right - 2 ^ suc left) 0 ≡ 0
+even-between left right = bitAt-zero (2 ^ suc right - 2 ^ suc left) ∙ omega (arith, pow-suc 2 left, pow-suc 2 right)
 
 half-below : (right : ℕ) → (2 ^ suc right - 1) / 2 ≡ 2 ^ right - 1
 half-below right = omega (arith, pow-suc 2 right, pow-pos right)
 
 -- The difference of two powers has the bits from the one on and before the other.
-bitOf-between : (left right k : ℕ) → left ≤ right → eqb (bitOf (2 ^ right - 2 ^ left) k) 1 ≡ between left right k
-bitOf-between zero zero k h = ap (λ (n : ℕ). eqb n 1) (bitOf-none k) ∙ sym (between-past 0 0 k (omega arith))
-bitOf-between zero (suc right) zero h =
-    eq-eqb _ 1 (bitOf-zero (2 ^ suc right - 1) ∙ omega (arith, pow-suc 2 right, pow-pos right))
+bitAt-between : (left right k : ℕ) → left ≤ right → eqb (bitAt (2 ^ right - 2 ^ left) k) 1 ≡ between left right k
+bitAt-between zero zero k h = ap (λ (n : ℕ). eqb n 1) (bitAt-none k) ∙ sym (between-past 0 0 k (omega arith))
+bitAt-between zero (suc right) zero h =
+    eq-eqb _ 1 (bitAt-zero (2 ^ suc right - 1) ∙ omega (arith, pow-suc 2 right, pow-pos right))
     ∙ sym (between-inside 0 (suc right) 0 (omega arith) (omega arith))
-bitOf-between zero (suc right) (suc k) h =
-    ap (λ (n : ℕ). eqb n 1) (bitOf-suc (2 ^ suc right - 1) k ∙ ap (λ (w : ℕ). bitOf w k) (half-below right))
-    ∙ bitOf-between zero right k (omega arith)
+bitAt-between zero (suc right) (suc k) h =
+    ap (λ (n : ℕ). eqb n 1) (bitAt-suc (2 ^ suc right - 1) k ∙ ap (λ (w : ℕ). bitAt w k) (half-below right))
+    ∙ bitAt-between zero right k (omega arith)
     ∙ between-zero right k
-bitOf-between (suc left) zero k h = absurd (omega arith)
-bitOf-between (suc left) (suc right) zero h =
+bitAt-between (suc left) zero k h = absurd (omega arith)
+bitAt-between (suc left) (suc right) zero h =
     ap (λ (n : ℕ). eqb n 1) (even-between left right) ∙ sym (between-before (suc left) (suc right) 0 (omega arith))
-bitOf-between (suc left) (suc right) (suc k) h =
-    ap (λ (n : ℕ). eqb n 1) (bitOf-suc (2 ^ suc right - 2 ^ suc left) k ∙ ap (λ (w : ℕ). bitOf w k) (half-between left right))
-    ∙ bitOf-between left right k (omega arith)
+bitAt-between (suc left) (suc right) (suc k) h =
+    ap (λ (n : ℕ). eqb n 1) (bitAt-suc (2 ^ suc right - 2 ^ suc left) k ∙ ap (λ (w : ℕ). bitAt w k) (half-between left right))
+    ∙ bitAt-between left right k (omega arith)
     ∙ between-suc left right k
 
 -- ---- the marks of columns in one word
@@ -133,10 +133,10 @@ between-word left right first j h =
     (leb-same (min 64 (left - first)) j left (first + j) (λ p. omega arith) (λ p. omega arith))
     (leb-same (suc j) (min 64 (right - first)) (suc (first + j)) right (λ p. omega arith) (λ p. omega arith))
 
-bitOf-marksIn : (c : Columns) → Spanned c → (first j : ℕ) → j < 64 → eqb (bitOf (marksIn c first) j) 1 ≡ holds c (first + j)
-bitOf-marksIn c spanned first j h =
+bitAt-marksIn : (c : Columns) → Spanned c → (first j : ℕ) → j < 64 → eqb (bitAt (marksIn c first) j) 1 ≡ holds c (first + j)
+bitAt-marksIn c spanned first j h =
     let ordered = spanned .ordered in
-    bitOf-between (min 64 (c .left - first)) (min 64 (c .right - first)) j (omega arith)
+    bitAt-between (min 64 (c .left - first)) (min 64 (c .right - first)) j (omega arith)
     ∙ between-word (c .left) (c .right) first j h
 
 -- The fourth word has 48 of the line.
@@ -148,7 +148,7 @@ marksIn-clean c spanned =
 
 -- ---- four words
 
-pub marked-word : (ws : List ℕ) (i j : ℕ) → j < 64 → marked ws (64 * i + j) ≡ eqb (bitOf (getD ws i 0) j) 1
+pub marked-word : (ws : List ℕ) (i j : ℕ) → j < 64 → marked ws (64 * i + j) ≡ eqb (bitAt (getD ws i 0) j) 1
 marked-word ws i j h =
     let d : (64 * i + j) / 64 ≡ i = omega arith in
     let m : (64 * i + j) % 64 ≡ j = omega arith in
@@ -165,7 +165,7 @@ module _ (word : ℕ → ℕ) {a b c d : ℕ} (first-is : a ≡ word 0) (second-
   getD-words (suc (suc (suc (suc i)))) h = absurd (omega arith)
 
   marksOf-words : (test : ℕ → Bool) → word 3 < 2 ^ 48
-      → ((i j : ℕ) → i < 4 → j < 64 → eqb (bitOf (word i) j) 1 ≡ test (64 * i + j))
+      → ((i j : ℕ) → i < 4 → j < 64 → eqb (bitAt (word i) j) 1 ≡ test (64 * i + j))
       → MarksOf test (a ∷ b ∷ c ∷ d ∷ [])
   marksOf-words test clean same =
       record {
@@ -173,7 +173,7 @@ module _ (word : ℕ → ℕ) {a b c d : ℕ} (first-is : a ≡ word 0) (second-
         same = λ k lt.
             let place : 64 * (k / 64) + k % 64 ≡ k = omega arith in
             marked-is (a ∷ b ∷ c ∷ d ∷ []) k
-            ∙ ap (λ (w : ℕ). eqb (bitOf w (k % 64)) 1) (getD-words (k / 64) (omega arith))
+            ∙ ap (λ (w : ℕ). eqb (bitAt w (k % 64)) 1) (getD-words (k / 64) (omega arith))
             ∙ same (k / 64) (k % 64) (omega arith) (omega arith)
             ∙ ap test place;
       }
@@ -184,7 +184,7 @@ pub marksOf-columns : (c : Columns) {m₀ m₁ m₂ m₃ : ℕ}
     → MarksOf (holds c) (m₀ ∷ m₁ ∷ m₂ ∷ m₃ ∷ [])
 marksOf-columns c p q r s spanned =
     marksOf-words (λ i. marksIn c (64 * i)) p q r s (holds c) (marksIn-clean c spanned)
-    (λ i j h lt. bitOf-marksIn c spanned (64 * i) j lt)
+    (λ i j h lt. bitAt-marksIn c spanned (64 * i) j lt)
 
 module _ (ws vs : List ℕ) where
   -- The words of the one without the marks of the other.
@@ -198,10 +198,10 @@ module _ (ws vs : List ℕ) where
       marksOf-words (λ i. bitAnd (getD ws i 0) ((2 ^ 64 - 1) - getD vs i 0)) refl refl refl refl _
       (omega (arith, and-le-l (getD ws 3 0) ((2 ^ 64 - 1) - getD vs 3 0)))
       (λ i j h lt.
-      bitOf-and (getD ws i 0) ((2 ^ 64 - 1) - getD vs i 0) j
+      bitAt-and (getD ws i 0) ((2 ^ 64 - 1) - getD vs i 0) j
       ∙ ap₂ _&&_ (sym (marked-word ws i j lt))
-      (ap (λ (b : ℕ). eqb b 1) (bitOf-not 64 (getD vs i 0) j (few i) lt)
-      ∙ eqb-not (bitOf (getD vs i 0) j) (bitOf-bound (getD vs i 0) j)
+      (ap (λ (b : ℕ). eqb b 1) (bitAt-not 64 (getD vs i 0) j (few i) lt)
+      ∙ eqb-not (bitAt (getD vs i 0) j) (bitAt-bound (getD vs i 0) j)
       ∙ ap not (sym (marked-word vs i j lt))))
 
   -- The marks of both.
@@ -215,5 +215,5 @@ module _ (ws vs : List ℕ) where
       marksOf-words (λ i. bitOr (getD ws i 0) (getD vs i 0)) refl refl refl refl _
       (or-lt 48 (getD ws 3 0) (getD vs 3 0) clean clean-too)
       (λ i j h lt.
-      bitOf-or (getD ws i 0) (getD vs i 0) j
+      bitAt-or (getD ws i 0) (getD vs i 0) j
       ∙ ap₂ _||_ (sym (marked-word ws i j lt)) (sym (marked-word vs i j lt)))

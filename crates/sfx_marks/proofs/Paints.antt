@@ -14,10 +14,10 @@ use Rattle.rows.specs.Cells.{only}
 use Rattle.rows.specs.Marks.{marked}
 use Rattle.rows.specs.Tab.{tab, mapTab}
 use Rattle.rows.proofs.Below.{between-inside, between-before, between-past}
-use Rattle.rows.proofs.Bits.{bitOf, bitOf-none}
+use Rattle.rows.proofs.Bits.{bitAt, bitAt-none}
 use Rattle.rows.proofs.Tab.{length-tab, getD-tab, getD-of-tab, tab-cong, tab-ext}
 use Rattle.rows.proofs.Tabbed.{mapped-from, mapped-inside, mapped-to}
-use Rattle.sfx_marks.specs.Marks.{markedIn, givenRow}
+use Rattle.sfx_marks.specs.Code.{markedIn, givenRow}
 use Rattle.sfx_marks.proofs.Marks.{marked-word}
 
 -- ---- a row with columns of another
@@ -113,9 +113,9 @@ given-one other row left x size h word-is e =
 
 -- A word without marks marks none.
 pub markedIn-none : (first end k : ℕ) → markedIn 0 first end k ≡ false
-unfolding bitOf
+unfolding bitAt
 markedIn-none first end k =
-    ap (λ (b : ℕ). between first end k && eqb b 1) (bitOf-none (k - first)) ∙ and-false (between first end k)
+    ap (λ (b : ℕ). between first end k && eqb b 1) (bitAt-none (k - first)) ∙ and-false (between first end k)
 
 between-none : (a k : ℕ) → Dec (k < a) → between a a k ≡ false
 between-none a k (yes h) = between-before a a k h
@@ -189,7 +189,7 @@ module _ (other ws row₀ : List ℕ) where
   pub givenTo-more : (i end : ℕ) {row row' : List ℕ} → 64 * i ≤ end → end ≤ 64 * i + 64 → GivenTo (64 * i) row
       → row' ≡ givenRow (markedIn (getD ws i 0) (64 * i) end) other row
       → GivenTo end row'
-  unfolding bitOf
+  unfolding bitAt
   givenTo-more i end h u = given-more (marked ws) _ 0 (64 * i) end (omega arith) h same other row₀
     where
       same : (k : ℕ) → 64 * i ≤ k → k < end → eqb (getD ws i 0 / 2 ^ (k - 64 * i) % 2) 1 ≡ marked ws k

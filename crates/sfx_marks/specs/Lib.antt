@@ -1,2 +1,2 @@
 -- What the marks of columns are, as code has them. Assumes nothing.
-pub mod Marks
+pub mod Code

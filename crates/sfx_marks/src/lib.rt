@@ -5,7 +5,7 @@ ghost use Prim.Native.Nat.{_+_, _-_, _%_, _^_, _≤_, min};
 ghost use lib.ListN.{length, getD};
 ghost use Rattle.rows.specs.Marks.{marked, Clean};
 ghost use Rattle.rows.specs.Tab.{tab};
-ghost use Rattle.sfx_marks.specs.Marks.{holds, Spanned, MarksOf, markedIn, givenRow};
+ghost use Rattle.sfx_marks.specs.Code.{holds, Spanned, MarksOf, markedIn, givenRow};
 
 // The columns from left on and before right.
 pub struct Columns {

@@ -13,8 +13,7 @@ use Rattle.regs.specs.declared.DisplayControl.{DisplayControl}
 use Rattle.regs.specs.declared.reading.Reading.{Reading}
 use Rattle.obj_entries.specs.Entry.{entryCells, windowMark}
 use Rattle.sfx_regions.specs.Region.{region, permitted, usesWindows, inWindow0, inWindow1}
-use Rattle.sfx_regions.specs.Row.{wordIn, regionAt, regionRow}
-use Rattle.sfx_regions.specs.Walk.{ColumnsOf, walkedWord, walkedRow}
+use Rattle.sfx_regions.specs.Code.{wordIn, regionAt, regionRow, ColumnsOf, walkedWord, walkedRow}
 use Rattle.sfx_marks.specs.declared.Columns.{Columns}
 use Rattle.sfx_regions.specs.declared.RegionWords.{RegionWords}
 use Rattle.sfx_regions.specs.declared.WindowType.{WindowType}

@@ -10,7 +10,7 @@ use Rattle.rows.proofs.Below.{between-past}
 use Rattle.regs_window.specs.Windows.{left, right, top, bottom, WindowOf, rightEdge, inColumns, inRows}
 use Rattle.regs_window.specs.declared.Window.{Window}
 use Rattle.regs_window.proofs.Laws.{inside-none}
-use Rattle.sfx_regions.specs.Walk.{ColumnsOf}
+use Rattle.sfx_regions.specs.Code.{ColumnsOf}
 use Rattle.sfx_marks.specs.declared.Columns.{Columns}
 
 -- The columns of a test that is the same.

@@ -12,8 +12,8 @@ use Rattle.rows.proofs.Below.{between-inside}
 use Rattle.rows.proofs.Marks.{countMarks-full}
 use Rattle.rows.proofs.Tab.{tab-cong, tab-replicate}
 use Rattle.obj_entries.specs.Entry.{entryCells, windowMark}
-use Rattle.sfx_marks.specs.Marks.{holds, MarksOf, givenRow}
-use Rattle.sfx_regions.specs.Walk.{walkedWord, walkedRow}
+use Rattle.sfx_marks.specs.Code.{holds, MarksOf, givenRow}
+use Rattle.sfx_regions.specs.Code.{walkedWord, walkedRow}
 use Rattle.sfx_marks.specs.declared.Columns.{Columns}
 use Rattle.sfx_regions.specs.declared.RegionWords.{RegionWords}
 use Rattle.sfx_marks.proofs.Paints.{tab-given}

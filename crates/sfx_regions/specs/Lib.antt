@@ -1,4 +1,3 @@
 -- What regions are. Assumes nothing.
 pub mod Region
-pub mod Row
-pub mod Walk
+pub mod Code

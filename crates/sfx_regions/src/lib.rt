@@ -9,25 +9,24 @@ ghost use Rattle.memory.specs.Sizes.{registersSize};
 ghost use Rattle.regs_window.specs.Windows.{inColumns, inRows};
 ghost use Rattle.obj_entries.specs.Entry.{entriesSize, entryCells, windowMark};
 ghost use Rattle.sfx_regions.specs.Region.{permitted, inWindow0, inWindow1};
-ghost use Rattle.sfx_regions.specs.Row.{regionRow};
-ghost use Rattle.sfx_marks.specs.Marks.{Spanned};
-ghost use Rattle.sfx_regions.specs.Walk.{ColumnsOf, walkedRow};
-use obj_entries::entry_at;
-use sfx_marks::Columns;
-use sfx_marks::free_marks;
-use sfx_marks::joined;
-use sfx_marks::marks_of;
-use sfx_marks::paint;
+ghost use Rattle.sfx_regions.specs.Code.{regionRow, ColumnsOf, walkedRow};
+ghost use Rattle.sfx_marks.specs.Code.{Spanned};
 use memory::DISPLAY_WIDTH;
+use obj_entries::entry_at;
 use regs::Reading;
 use regs::iodev::read_dispcnt;
-use rows::count_marks;
 use regs_window::Window;
 use regs_window::WindowFlags;
 use regs_window::read_win0;
 use regs_window::read_win1;
 use regs_window::read_winobj_flags;
 use regs_window::read_winout_flags;
+use rows::count_marks;
+use sfx_marks::Columns;
+use sfx_marks::free_marks;
+use sfx_marks::joined;
+use sfx_marks::marks_of;
+use sfx_marks::paint;
 
 // The Rust's kinds of window: a column's region.
 pub enum WindowType {

@@ -16,8 +16,7 @@ use Rattle.regs.specs.Background.{priority}
 use Rattle.rows.specs.Below.{allBelow}
 use Rattle.rows.proofs.Below.{allBelow-at}
 use Rattle.sfx_sorting.specs.Ordered.{keep, stands, standing, ordered}
-use Rattle.sfx_sorting.specs.Places.{places}
-use Rattle.sfx_sorting.specs.Sorting.{sortKey, sortedKeys, keyPlace}
+use Rattle.sfx_sorting.specs.Code.{places, sortKey, sortedKeys, keyPlace}
 
 -- A background's rank: its priority, or 4 if it is off.
 abbrev pub rank : List ℕ → ℕ → ℕ

@@ -1,4 +1,3 @@
 -- In which order backgrounds stand. Assumes nothing.
 pub mod Ordered
-pub mod Places
-pub mod Sorting
+pub mod Code

@@ -7,8 +7,7 @@ ghost use Rattle.regs.specs.Registers.{dispcnt, bgcnt};
 ghost use Rattle.regs.specs.Display.{DisplayControlOf};
 ghost use Rattle.regs.specs.Background.{priority};
 ghost use Rattle.sfx_sorting.specs.Ordered.{ordered};
-ghost use Rattle.sfx_sorting.specs.Places.{places};
-ghost use Rattle.sfx_sorting.specs.Sorting.{sortKey, sortedKeys, keyPlace};
+ghost use Rattle.sfx_sorting.specs.Code.{places, sortKey, sortedKeys, keyPlace};
 use regs::DisplayControl;
 use regs::iodev::read_bgcnt;
 

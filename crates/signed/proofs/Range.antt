@@ -8,7 +8,8 @@ use lib.IntN.{ℤ, pos, negsuc, subℕ}
 use lib.Signed.{mag}
 use borrow.Author.Tests.{ltb-true, lt-ltb}
 use Rattle.signed.specs.Signed.{inRange}
-use Rattle.signed.proofs.Order.{leb-same, leZ-subℕ, ltZ-subℕ, mag-subℕ}
+use Rattle.bits.proofs.Booleans.{leb-same}
+use Rattle.signed.proofs.Order.{leZ-subℕ, ltZ-subℕ, mag-subℕ}
 
 -- Both ends in one: the size is below 2^28, mag z being n for n and for -(n + 1).
 pub inRange-mag : (z : ℤ) → inRange z ≡ ltb (mag z) (2 ^ 28)

@@ -10,7 +10,7 @@ use lib.Signed.{shrZ}
 use borrow.Author.Tests.{ltb-true, le-leb, lt-leb}
 use Rattle.signed.specs.Signed.{down256, wrapped, within}
 use Rattle.signed.proofs.Difference.{View, up, down, view, subℕ-view, subℕ-zero, subℕ-cross, neg-subℕ, add-subℕ-pos}
-use Rattle.signed.proofs.Order.{leb-same}
+use Rattle.bits.proofs.Booleans.{leb-same}
 
 pub down256-subℕ : (a bias : ℕ) → down256 (subℕ a (256 * bias)) ≡ subℕ (a / 256) bias
 down256-subℕ a bias = go (view a (256 * bias))

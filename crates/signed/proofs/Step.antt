@@ -8,7 +8,7 @@ use lib.IntN.{ℤ, subℕ, _+ℤ_}
 use borrow.Author.Tests.{leb-true, ltb-true}
 use Rattle.signed.specs.Signed.{inRange}
 use Rattle.signed.proofs.Difference.{subℕ-cross, add-subℕ}
-use Rattle.signed.proofs.Order.{and-both}
+use Rattle.bits.proofs.Booleans.{and-both}
 use Rattle.signed.proofs.Range.{inRange-lifted, inRange-subℕ}
 
 -- What the sum s of a lifted reference number z and a lifted step p tells of z and z + p.

@@ -11,7 +11,7 @@ use lib.Signed.{mag}
 use borrow.Author.Tests.{lt-ltb, le-ltb, leb-true, lt-leb}
 use Rattle.signed.specs.Signed.{signed16, signed32, wrapped, word32, inRange}
 use Rattle.signed.proofs.Difference.{View, up, down, view, subℕ-view, subℕ-cross}
-use Rattle.signed.proofs.Order.{leb-same}
+use Rattle.bits.proofs.Booleans.{leb-same}
 use Rattle.signed.proofs.Range.{inRange-mag}
 use Rattle.signed.proofs.Remainder.{wrapped-bound}
 

@@ -32,24 +32,24 @@ held-reset =
     }
 
 module _ (column : ℕ) (column< : column < 240) where
-  abbrev entryOf : List ℕ → Entry
-  entryOf row = cellAt entryCells row column
+  abbrev entryAt : List ℕ → Entry
+  entryAt row = cellAt entryCells row column
 
   -- Of what was put so far, and of what a draw puts, the entry that it leaves holds the winner.
-  held-draw : (i : ℕ) (a : Attempt) (row : List ℕ) (ps : List Pixel) → Held i 0 ps (entryOf row)
-      → Held (suc i) 0 (ps ++ cond (putsPixels a row) (pixelsUpTo i (spritesOf a) 128 column) []) (entryOf (rowLeft a row))
+  held-draw : (i : ℕ) (a : Attempt) (row : List ℕ) (ps : List Pixel) → Held i 0 ps (entryAt row)
+      → Held (suc i) 0 (ps ++ cond (putsPixels a row) (pixelsUpTo i (spritesOf a) 128 column) []) (entryAt (rowLeft a row))
   held-draw i a row ps held = rw (rowLeft-is a row) (go (putsPixels a row))
     where
       go : (t : Bool)
-          → Held (suc i) 0 (ps ++ cond t (pixelsUpTo i (spritesOf a) 128 column) []) (entryOf (cond t (spriteRow a row) row))
+          → Held (suc i) 0 (ps ++ cond t (pixelsUpTo i (spritesOf a) 128 column) []) (entryAt (cond t (spriteRow a row) row))
       go true =
           rw (cellAt-rowOf entryCells _ 240 column column<)
           (held-later i 128 _ _ (held-sprites column i (spritesOf a) 128 ps _ held))
       go false = rw (append-nil ps) (held-later i 0 ps _ held)
 
   -- Of what was put so far, and of what draws from number i on put, the entry that they leave holds the winner.
-  pub held-draws : (i : ℕ) (draws : List Attempt) (row : List ℕ) (ps : List Pixel) → Held i 0 ps (entryOf row)
-      → Holds (ps ++ pixelsPut i draws row column) (entryOf (rowAfter draws row))
+  pub held-draws : (i : ℕ) (draws : List Attempt) (row : List ℕ) (ps : List Pixel) → Held i 0 ps (entryAt row)
+      → Holds (ps ++ pixelsPut i draws row column) (entryAt (rowAfter draws row))
   unfolding pixelsPut rowAfter
   held-draws i [] row ps held = rw (append-nil ps) (held .holds)
   held-draws i (a ∷ rest) row ps held =
@@ -57,23 +57,23 @@ module _ (column : ℕ) (column< : column < 240) where
 
   -- A draw sets the window mark where it puts an opaque window-sprite pixel, and else leaves it.
   window-draw : (a : Attempt) (row : List ℕ)
-      → windowMark (entryOf (rowLeft a row))
-      ≡ (windowMark (entryOf row) || (putsPixels a row && windowUpTo (spritesOf a) 128 column))
-  window-draw a row = ap (λ l. windowMark (entryOf l)) (rowLeft-is a row) ∙ go (putsPixels a row)
+      → windowMark (entryAt (rowLeft a row))
+      ≡ (windowMark (entryAt row) || (putsPixels a row && windowUpTo (spritesOf a) 128 column))
+  window-draw a row = ap (λ l. windowMark (entryAt l)) (rowLeft-is a row) ∙ go (putsPixels a row)
     where
-      go : (t : Bool) → windowMark (entryOf (cond t (spriteRow a row) row))
-          ≡ (windowMark (entryOf row) || (t && windowUpTo (spritesOf a) 128 column))
+      go : (t : Bool) → windowMark (entryAt (cond t (spriteRow a row) row))
+          ≡ (windowMark (entryAt row) || (t && windowUpTo (spritesOf a) 128 column))
       go true =
           ap windowMark (cellAt-rowOf entryCells _ 240 column column<)
-          ∙ windowMark-sprites column (spritesOf a) 128 (entryOf row)
-      go false = sym (or-false (windowMark (entryOf row)))
+          ∙ windowMark-sprites column (spritesOf a) 128 (entryAt row)
+      go false = sym (or-false (windowMark (entryAt row)))
 
   -- The mark stays set, and is set exactly if some draw puts an opaque window-sprite pixel there.
   pub window-draws : (draws : List Attempt) (row : List ℕ)
-      → windowMark (entryOf (rowAfter draws row)) ≡ (windowMark (entryOf row) || windowPut draws row column)
+      → windowMark (entryAt (rowAfter draws row)) ≡ (windowMark (entryAt row) || windowPut draws row column)
   unfolding windowPut rowAfter
-  window-draws [] row = sym (or-false (windowMark (entryOf row)))
+  window-draws [] row = sym (or-false (windowMark (entryAt row)))
   window-draws (a ∷ rest) row =
       window-draws rest (rowLeft a row)
       ∙ ap (λ t. t || windowPut rest (rowLeft a row) column) (window-draw a row)
-      ∙ or-assoc (windowMark (entryOf row)) _ _
+      ∙ or-assoc (windowMark (entryAt row)) _ _

@@ -13,7 +13,7 @@ use Rattle.regs.specs.Display.{mode, forceBlank}
 use Rattle.obj_entries.specs.Entry.{shapedRow}
 use Rattle.gpu_step.specs.References.{inRanges}
 use Rattle.gpu_judge.specs.Judge.{Call, haveLengths, verdict, numberOf}
-use Rattle.gpu_judge.specs.Rest.{lineVerdict}
+use Rattle.gpu_judge.specs.Code.{lineVerdict}
 use Rattle.gpu_judge.proofs.Verdicts.{verdict-rest}
 use Rattle.gpu.specs.Draw.{given, draw}
 use Rattle.gpu_judge.specs.declared.Verdict.{Verdict}

@@ -11,7 +11,7 @@ use lib.ListN.{length}
 use borrow.Author.Tests.{eqb-true, leb-true}
 use Rattle.bits.specs.Bits.{bit}
 use Rattle.rgb15.specs.Colour.{transparent}
-use Rattle.signed.proofs.Order.{and-both}
+use Rattle.bits.proofs.Booleans.{and-both}
 use Rattle.rows.specs.Cells.{cellAt, Exact}
 use Rattle.rows.proofs.Below.{allBelow-at}
 use Rattle.rows.proofs.Cells.{length-rowOf, cellAt-rowOf, exact-rowOf, rowOf-ext}
@@ -25,7 +25,7 @@ use Rattle.gpu.specs.Draw.{given, draw}
 use Rattle.thm_order.specs.Draws.{Attempt, rowLeft, rowAfter, putsPixels}
 use Rattle.thm_order.proofs.Rows.{spriteRow, rowLeft-is}
 use Rattle.thm_order.proofs.Verdicts.{verdict-cases}
-use Rattle.gpu_records.specs.Entries.{entryOf, recordOf, resetRecord, rowBytes, recordsIn}
+use Rattle.gpu_records.specs.Entries.{entryOfRecord, recordOf, resetRecord, rowBytes, recordsIn}
 use Rattle.gpu_records.specs.declared.entry.ObjBufferEntry.{ObjBufferEntry}
 use Rattle.gpu_records.proofs.Rows.{entryAt, rowBytes-is}
 use Rattle.gpu_draw_records.specs.Draw.{writes, drawRecords}
@@ -60,9 +60,9 @@ priority-bound e shaped =
         (or-split (eqb p 4 && t && u) (leb p 3 && v) e)
 
 -- The record of a well-shaped entry stands for it.
-entryOf-recordOf : (e : Entry) → wellShaped e ≡ true → entryOf (recordOf e) ≡ e
-unfolding entryOf recordOf
-entryOf-recordOf e shaped =
+entryOfRecord-recordOf : (e : Entry) → wellShaped e ≡ true → entryOfRecord (recordOf e) ≡ e
+unfolding entryOfRecord recordOf
+entryOfRecord-recordOf e shaped =
     let low : min 255 (e .priority) ≡ e .priority = omega (arith, priority-bound e shaped) in
     rw (low, two-marks (e .marks) (marks-bound e shaped))
 
@@ -82,8 +82,8 @@ rowBytes-recordsIn row kept =
     ∙ sym
     (rowOf-ext entryCells (entryAt (recordsIn row)) 240 row (kept .size) (kept .exact)
     (λ k lt.
-    sym (ap entryOf (getD-tab _ 240 k resetRecord lt)
-    ∙ entryOf-recordOf (cellAt entryCells row k) (allBelow-at _ 240 (kept .shaped) k lt))))
+    sym (ap entryOfRecord (getD-tab _ 240 k resetRecord lt)
+    ∙ entryOfRecord-recordOf (cellAt entryCells row k) (allBelow-at _ 240 (kept .shaped) k lt))))
 
 kept-reset : Kept resetRow
 kept-reset =

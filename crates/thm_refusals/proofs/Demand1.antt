@@ -6,7 +6,7 @@ use mathlib.Core.List.{List}
 use mathlib.Core.Logic.{_≢_}
 use Rattle.regs.specs.Registers.{dispcnt}
 use Rattle.regs.specs.Display.{forceBlank}
-use Rattle.gpu_step.specs.Step.{Answer}
+use Rattle.rows.specs.Answer.{Answer}
 use Rattle.gpu.specs.Draw.{Drawing}
 use Rattle.gpu_records.specs.declared.affine.PairStep.{PairStep}
 use Rattle.gpu_draw_records.specs.Draw.{RecordDrawing}

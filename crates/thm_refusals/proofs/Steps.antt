@@ -8,7 +8,8 @@ use lib.IntN.{ℤ}
 use lib.ListN.{length}
 use Prim.Native.Nat.{ℕ}
 use Rattle.gpu_step.specs.References.{inRanges}
-use Rattle.gpu_step.specs.Step.{Steps, Answer, sums, stepped, stepNumber, referencesAfter, referencesSize, referencesIn}
+use Rattle.rows.specs.Answer.{Answer}
+use Rattle.gpu_step.specs.Step.{Steps, sums, stepped, stepNumber, referencesAfter, referencesSize, referencesIn}
 use Rattle.gpu_step.specs.Step.{bytesAfter, step}
 use Rattle.gpu_step.specs.declared.Stepped.{Stepped}
 use Rattle.obj_entries.specs.Entry.{entriesSize, resetRow}

@@ -9,7 +9,7 @@ use mathlib.Core.Logic.{_≢_, _↔_, inl, inr, ⊎-elim}
 use lib.Dec.{ltb}
 use lib.ListN.{length}
 use borrow.Author.Tests.{ltb-true}
-use Rattle.signed.proofs.Order.{and-both}
+use Rattle.bits.proofs.Booleans.{and-both}
 use Rattle.thm_refusals.specs.Table.{Row, rowAt, NoneOf, Judged}
 
 -- The number of the first row that applies, and 0 if none does.

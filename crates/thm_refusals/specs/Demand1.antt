@@ -22,7 +22,7 @@ use Rattle.gpu_judge.specs.Judge.{Call, blankOff, haveLengths}
 use Rattle.gpu.specs.Line.{blankLine}
 use Rattle.gpu.specs.Draw.{Draws}
 use Rattle.gpu_records.specs.Step.{stepsOf, referencesOf, StepsRecords}
-use Rattle.gpu_records.specs.Entries.{entryOf, resetRecord}
+use Rattle.gpu_records.specs.Entries.{entryOfRecord, resetRecord}
 use Rattle.gpu_records.specs.declared.affine.BgAffine.{BgAffine}
 use Rattle.gpu_records.specs.declared.entry.ObjBufferEntry.{ObjBufferEntry}
 use Rattle.gpu_draw_records.specs.Draw.{DrawsRecords}
@@ -59,7 +59,7 @@ recordLengths m records output =
 
 -- Whether each of a row's 240 records stands for a well-shaped entry.
 abbrev pub shapedRecords : List ObjBufferEntry → Bool
-shapedRecords records = allBelow (λ k. wellShaped (entryOf (getD records k resetRecord))) displayWidth
+shapedRecords records = allBelow (λ k. wellShaped (entryOfRecord (getD records k resetRecord))) displayWidth
 
 -- Those of a draw over records.
 abbrev pub recordsTable : Call → List ObjBufferEntry → List ℕ → List Row

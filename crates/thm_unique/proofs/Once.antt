@@ -5,7 +5,7 @@ use mathlib.Core.Path.{_≡_, refl, sym, ap, _∙_}
 use mathlib.Core.List.{List}
 use Rattle.gpu_judge.specs.Judge.{Call}
 use Rattle.gpu.specs.Draw.{Drawing, draw, Draws}
-use Rattle.gpu_step.specs.Step.{Answer}
+use Rattle.rows.specs.Answer.{Answer}
 use Rattle.obj_entries.specs.Reset.{reset, Resets}
 use Rattle.gpu_step.specs.Step.{Steps, step, StepsTo}
 

@@ -8,7 +8,7 @@ use lib.Dec.{eqb}
 use lib.ListN.{length}
 use lib.Seq.{ext-getD}
 use borrow.Author.Tests.{eq-eqb, eqb-true}
-use Rattle.signed.proofs.Order.{and-both}
+use Rattle.bits.proofs.Booleans.{and-both}
 use Rattle.rows.proofs.Below.{allBelow-at, allBelow-ext}
 use Rattle.rows.proofs.Cells.{length-rowOf}
 use Rattle.memory.specs.Memory.{byte}

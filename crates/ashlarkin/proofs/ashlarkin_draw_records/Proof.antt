@@ -74,7 +74,7 @@ use Rattle.gpu_records.proofs.store_row.Symbol as store-def
 use Rattle.gpu_records.proofs.store_row.Symbol.{name as #store-row}
 use Rattle.gpu_records.proofs.store_row.Met as store-thm
 use Rattle.gpu_draw_records.specs.Draw.{DrawsRecords}
-use Rattle.gpu_draw_records.specs.Values.{rowRefusal, drawnRow}
+use Rattle.gpu_draw_records.specs.Code.{rowRefusal, drawnRow}
 use Rattle.gpu_draw_records.specs.declared.Drawn.{Drawn}
 use Rattle.gpu_draw_records.proofs.Draws.{row-whole, draws-refused, draws-kept, draws-written}
 use Rattle.gpu_draw_records.proofs.Drawn as P

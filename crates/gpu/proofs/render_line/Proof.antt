@@ -12,7 +12,7 @@ use borrow.Author.Needs.{needs}
 use Rattle.memory.specs.Sizes.{registersSize}
 use Rattle.regs.specs.Registers.{dispcnt}
 use Rattle.regs.specs.Display.{mode}
-use Rattle.bg_regular.specs.Lent.{Lent}
+use Rattle.memory.specs.Code.{Lent}
 use Rattle.gpu_step.specs.References.{inRanges}
 use Rattle.gpu_judge.specs.Judge.{Call, callOf}
 use Rattle.gpu_step.proofs.Ranges.{references-are}

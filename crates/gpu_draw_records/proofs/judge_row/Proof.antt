@@ -1,7 +1,7 @@
 -- gpu_draw_records::judge_row meets its contract: its tests are those of rowRefusal.
 -- Assumes nothing.
 use borrow.Author.Tests.{eq-eqb, ne-eqb, lt-ltb, le-ltb}
-use Rattle.gpu_draw_records.specs.Values.{rowRefusal}
+use Rattle.gpu_draw_records.specs.Code.{rowRefusal}
 use Rattle.gpu_draw_records.proofs.judge_row.Statement.{statement}
 use Rattle.gpu_draw_records.proofs.judge_row.Tie as tie
 

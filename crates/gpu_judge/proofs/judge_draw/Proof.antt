@@ -4,7 +4,7 @@ use mathlib.Core.Path.{sym, ap, _∙_}
 use mir.Facts.{toZ-ofZ}
 use borrow.Author.Needs.{needs}
 use borrow.Author.Tests.{not-true, not-false}
-use Rattle.gpu_judge.specs.Rest.{lineVerdict}
+use Rattle.gpu_judge.specs.Code.{lineVerdict}
 use Rattle.gpu_step.proofs.Ranges.{references-are}
 use Rattle.gpu_judge.proofs.Verdicts.{lengths-are, gives-reading-number, gives-length, gives-line, gives-rest}
 use Rattle.gpu_judge.proofs.judge_draw.Statement.{statement}

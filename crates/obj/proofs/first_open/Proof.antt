@@ -2,7 +2,7 @@
 -- Assumes nothing.
 use Prim.Native.Nat.{_-_, _≤_}
 use native.Mathlib.Omega.{arith}
-use Rattle.obj.specs.Steps.{Closed}
+use Rattle.obj.specs.Code.{Closed}
 use Rattle.obj.proofs.Skip.{each-none, each-more, closed-one}
 use Rattle.obj.proofs.first_open.Statement.{statement}
 use Rattle.obj.proofs.first_open.Tie as tie

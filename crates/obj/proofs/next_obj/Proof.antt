@@ -4,7 +4,7 @@ use Prim.Native.Nat.{_-_, _≤_}
 use mathlib.Core.Path.{sym, ap, _∙_}
 use native.Mathlib.Omega.{arith}
 use Rattle.obj_sprites.specs.Sprite.{drawn}
-use Rattle.obj.specs.Steps.{NoneDrawn}
+use Rattle.obj.specs.Code.{NoneDrawn}
 use Rattle.obj.proofs.Skip.{each-none, each-more}
 use Rattle.obj.proofs.next_obj.Statement.{statement}
 use Rattle.obj.proofs.next_obj.Tie as tie

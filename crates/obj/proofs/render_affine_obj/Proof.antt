@@ -5,8 +5,8 @@ use Prim.Native.Nat.{_+_, _-_}
 use native.Mathlib.Omega.{arith}
 use borrow.Author.Needs.{needs}
 use Rattle.obj_sprites.specs.Oam.{matrix}
-use Rattle.obj_texels.proofs.Colors.{affineColor-outside}
-use Rattle.obj_texels.proofs.Texels.{affineColor-row}
+use Rattle.obj_texels.proofs.Colors.{affineObjColor-outside}
+use Rattle.obj_texels.proofs.Texels.{affineObjColor-row}
 use Rattle.obj.proofs.Pixels.{putRow-closed, putRow-open}
 use Rattle.obj.proofs.render_affine_obj.Statement.{statement}
 use Rattle.obj.proofs.render_affine_obj.Tie as tie
@@ -21,7 +21,7 @@ returns c =
     let at = known .before .args in
     let span = opened .open-columns in
     putRow-closed (at .attrs) _ (at .entries .now) (span .result .start) (span .result .end)
-    (affineColor-outside (at .reading) (at .mapping) (at .vram .now) (at .palette .now) (at .attrs) (at .line)
+    (affineObjColor-outside (at .reading) (at .mapping) (at .vram .now) (at .palette .now) (at .attrs) (at .line)
     (placed .left .result) (placed .left .ensures .0) _ (omega arith) (omega arith))
     (span .ensures .3) (span .ensures .4) (known .slice-known .given) (c .if1 .taken)
 
@@ -47,12 +47,12 @@ returns-2 c =
     let span = opened .open-columns in
     let left = placed .left .result in
     putRow-open (at .attrs) _ (at .entries .now) (span .result .start) (span .result .end)
-    (affineColor-outside (at .reading) (at .mapping) (at .vram .now) (at .palette .now) (at .attrs) (at .line)
+    (affineObjColor-outside (at .reading) (at .mapping) (at .vram .now) (at .palette .now) (at .attrs) (at .line)
     left (placed .left .ensures .0) _ (omega arith) (omega arith))
     (span .ensures .3) (span .ensures .4)
     (colored .affine-row .result) left (start .pre .0) (put .write-obj-pixels .ensures)
     (λ k from to.
-    affineColor-row (at .reading) (at .mapping) (at .vram .now) (at .palette .now) (at .attrs) (turned .turn-line .result)
+    affineObjColor-row (at .reading) (at .mapping) (at .vram .now) (at .palette .now) (at .attrs) (turned .turn-line .result)
     (at .line) left (placed .left .ensures .0) (matrix (at .oam .now) (at .attrs .«affine_index»)) (turned .turn-line .ensures)
     (omega (arith, boxed .box-width .ensures))
     (span .result .start + 272 - left) (span .result .end + 272 - left) k (colored .affine-row .result)

@@ -1,15 +1,15 @@
--- obj_entries::word_of meets its contract: its three parts are those that entryOf reads.
+-- obj_entries::word_of meets its contract: its three parts are those that entryOfWord reads.
 -- Assumes nothing.
 use native.Mathlib.Omega.{arith}
 use mathlib.Core.Path.{refl}
-use Rattle.obj_entries.proofs.Entries.{entryOf-parts}
+use Rattle.obj_entries.proofs.Entries.{entryOfWord-parts}
 use Rattle.obj_entries.proofs.word_of.Statement.{statement}
 use Rattle.obj_entries.proofs.word_of.Tie as tie
 
 returns : tie.Need-returns
 returns c =
     let e = c .before .before .before .args .e in
-    entryOf-parts (e .color .0) (e .priority) (e .marks) (omega arith) (omega arith) refl
+    entryOfWord-parts (e .color .0) (e .priority) (e .marks) (omega arith) (omega arith) refl
 
 pub word-of-spec : {M : Type 1} → statement M
 word-of-spec =

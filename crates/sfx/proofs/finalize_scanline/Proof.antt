@@ -2,7 +2,7 @@
 -- Assumes nothing.
 use borrow.Author.Needs.{needs}
 use Rattle.sfx_layers.proofs.Marks.{unmarked, object-bound}
-use Rattle.sfx.specs.Lines.{bgLine}
+use Rattle.sfx.specs.Code.{bgLine}
 use Rattle.sfx.proofs.Columns.{scanline-is}
 use Rattle.sfx.proofs.finalize_scanline.Statement.{statement}
 use Rattle.sfx.proofs.finalize_scanline.Tie as tie

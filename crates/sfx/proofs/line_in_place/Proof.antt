@@ -2,7 +2,7 @@
 -- Assumes nothing.
 use native.Mathlib.Omega.{arith}
 use borrow.Author.Needs.{needs}
-use Rattle.sfx.specs.Lines.{bgLine}
+use Rattle.sfx.specs.Code.{bgLine}
 use Rattle.sfx.proofs.Lines.{bgLine-last}
 use Rattle.sfx.proofs.line_in_place.Statement.{statement}
 use Rattle.sfx.proofs.line_in_place.Tie as tie

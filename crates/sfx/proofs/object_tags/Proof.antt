@@ -5,7 +5,7 @@ use mathlib.Core.Path.{refl, ap, _∙_}
 use Rattle.rows.specs.Cells.{cellAt}
 use Rattle.rows.proofs.Tabbed.{Tabbed, tabbed-none, tabbed-more, tabbed-all}
 use Rattle.obj_entries.specs.Entry.{entryCells}
-use Rattle.sfx_layers.specs.Words.{objectTag}
+use Rattle.sfx_layers.specs.Code.{objectTag}
 use Rattle.rows.proofs.Columns.{halves-fit, next-fits, fewer-left}
 use Rattle.sfx.proofs.object_tags.Statement.{statement}
 use Rattle.sfx.proofs.object_tags.Tie as tie

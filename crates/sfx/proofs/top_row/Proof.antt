@@ -3,7 +3,7 @@
 use Prim.Native.Nat.{_-_}
 use mathlib.Core.Path.{refl}
 use Rattle.rows.proofs.Tabbed.{Tabbed, tabbed-none, tabbed-more, tabbed-all}
-use Rattle.sfx.specs.Words.{topColor, atColumn}
+use Rattle.sfx.specs.Code.{topColor, atColumn}
 use Rattle.rows.proofs.Columns.{halves-fit, next-fits, fewer-left}
 use Rattle.sfx.proofs.Words.{atColumn-is}
 use Rattle.sfx.proofs.top_row.Statement.{statement}

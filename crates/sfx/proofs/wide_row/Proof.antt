@@ -4,7 +4,7 @@ use Prim.Native.Nat.{_-_}
 use mathlib.Core.Path.{refl}
 use Rattle.rgb15.specs.Colour.{toRgb24}
 use Rattle.rows.proofs.Tabbed.{Tabbed, tabbed-none, tabbed-more, tabbed-all}
-use Rattle.sfx_layers.specs.Places.{lineColor}
+use Rattle.sfx_layers.specs.Code.{lineColor}
 use Rattle.rows.proofs.Columns.{words-fit, halves-fit, next-fits, fewer-left}
 use Rattle.sfx.proofs.wide_row.Statement.{statement}
 use Rattle.sfx.proofs.wide_row.Tie as tie

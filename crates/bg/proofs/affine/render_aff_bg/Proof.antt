@@ -9,16 +9,16 @@ use lib.ListN.{length-replicate}
 use Rattle.rgb15.specs.Colour.{rgb, transparent}
 use Rattle.signed.specs.Signed.{inRange}
 use Rattle.rows.proofs.Tabbed.{Tabbed, tabbed-none, tabbed-all}
-use Rattle.bg.specs.Affine.{affineColor}
+use Rattle.bg.specs.Affine.{affineBgColor}
 use Rattle.rows.proofs.Columns.{column-fits, halves-fit, next-fits, fewer-left}
 use Rattle.bg_regular.proofs.Lines.{colored-more}
-use Rattle.bg.proofs.Pixels.{affineColor-is}
+use Rattle.bg.proofs.Pixels.{affineBgColor-is}
 use Rattle.bg.proofs.affine.render_aff_bg.Statement.{statement}
 use Rattle.bg.proofs.affine.render_aff_bg.Tie as tie
 
 abbrev Inv-loop : tie.InvT-loop
 Inv-loop vram palette control ref-x ref-y pa pc side viewport screen-block char-block rx ry dx dy bg-line₀ screen-x₀ bg-line screen-x =
-    Tabbed (λ column. rgb (affineColor vram palette control (subℕ rx (2 ^ 28)) (subℕ ry (2 ^ 28)) pa pc column)) 240 screen-x bg-line
+    Tabbed (λ column. rgb (affineBgColor vram palette control (subℕ rx (2 ^ 28)) (subℕ ry (2 ^ 28)) pa pc column)) 240 screen-x bg-line
 
 abbrev μ-loop : tie.MeasureT-loop
 μ-loop vram palette control ref-x ref-y pa pc side viewport screen-block char-block rx ry dx dy bg-line₀ screen-x₀ bg-line screen-x =
@@ -61,7 +61,7 @@ loop-again c =
     let screen = char .before in
     let size = screen .before in
     colored-more (loop .loop .inv) (x .before .loop-test .taken)
-    (affineColor-is _ _ _
+    (affineBgColor-is _ _ _
     (dx .before .before .lift-i32 .result)
     (dx .before .lift-i322 .result)
     _ _

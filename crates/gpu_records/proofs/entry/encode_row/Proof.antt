@@ -8,7 +8,7 @@ use lib.ListN.{length}
 use borrow.Author.Needs.{needs}
 use Rattle.rows.proofs.Passed.{Passed, started, turned}
 use Rattle.obj_entries.specs.Entry.{entryCells}
-use Rattle.gpu_records.specs.Entries.{entryOf, resetRecord}
+use Rattle.gpu_records.specs.Entries.{entryOfRecord, resetRecord}
 use Rattle.gpu_records.specs.declared.entry.ObjBufferEntry.{ObjBufferEntry}
 use Rattle.gpu_records.proofs.Rows.{entryAt, getD-within, rowBytes-filled}
 use Rattle.gpu_records.proofs.entry.encode_row.Statement.{statement}
@@ -34,7 +34,7 @@ loop-again c =
     let turn = made .before .before .before in
     let within : turn .before .loop .k < length (turn .before .before .args .t1) = omega arith in
     turned entryCells (turn .before .loop .inv) (turn .loop-test .taken) (put .put-entry .ensures)
-    (made .entry-of .ensures ∙ ap entryOf (getD-within (turn .before .before .args .t1) _ missing resetRecord within))
+    (made .entry-of .ensures ∙ ap entryOfRecord (getD-within (turn .before .before .args .t1) _ missing resetRecord within))
 
 returns : tie.Need-returns Inv-loop μ-loop
 returns c = rowBytes-filled _ (omega arith) (c .before .loop .inv) (c .loop-test .left)

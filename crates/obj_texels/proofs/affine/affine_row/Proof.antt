@@ -6,7 +6,7 @@ use mathlib.Core.Path.{ap, _∙_}
 use lib.ListN.{length-replicate}
 use Rattle.rgb15.specs.Colour.{rgb, transparent}
 use Rattle.rows.proofs.Tabbed.{MappedPart, mapped-from, mapped-inside, mapped-to}
-use Rattle.obj_texels.specs.Row.{pointColor}
+use Rattle.obj_texels.specs.Code.{pointColor}
 use Rattle.obj_texels.proofs.Texels.{affineTexel-row}
 use Rattle.obj_texels.proofs.affine.affine_row.Statement.{statement}
 use Rattle.obj_texels.proofs.affine.affine_row.Tie as tie

@@ -4,7 +4,7 @@ use Prim.Native.Nat.{_+_, _^_, _≤_, _<_}
 use native.Mathlib.Omega.{arith}
 use mathlib.Core.Path.{sym}
 use Rattle.obj_sprites.proofs.Points.{colorAt-bounds, colorAt-inside, colorAt-outside}
-use Rattle.obj_texels.specs.Turn.{pointAt}
+use Rattle.obj_texels.specs.Code.{pointAt}
 use Rattle.obj_texels.proofs.affine.point_color.Statement.{statement}
 use Rattle.obj_texels.proofs.affine.point_color.Tie as tie
 

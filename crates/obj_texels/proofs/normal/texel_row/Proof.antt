@@ -8,7 +8,7 @@ use lib.Dec.{lit<}
 use mir.Syntax.{w64}
 use mir.Val.{Fits}
 use Rattle.rgb15.specs.Colour.{rgb}
-use Rattle.obj_texels.specs.Row.{rowTexel}
+use Rattle.obj_texels.specs.Code.{rowTexel}
 use Rattle.obj_texels.proofs.Texels.{rowTexel-inside, rowTexel-outside}
 use Rattle.obj_texels.proofs.Texels.{TilesSet, tilesSet-none, tilesSet-more, tilesSet-all}
 use Rattle.obj_texels.proofs.normal.texel_row.Statement.{statement}

@@ -2,7 +2,7 @@
 -- Assumes nothing.
 use mathlib.Core.Path.{ap, _∙_}
 use borrow.Author.Needs.{needs}
-use Rattle.sfx_layers.specs.Words.{regionWord}
+use Rattle.sfx_layers.specs.Code.{regionWord}
 use Rattle.sfx_layers.proofs.region.region_of.Statement.{statement}
 use Rattle.sfx_layers.proofs.region.region_of.Tie as tie
 

@@ -1,5 +1,5 @@
--- Coordinates as code has them, each larger by 0x1e0000, so that none is below 0 (01, "Backgrounds"). Only contracts that
--- `background` builds on cite this file. Assumes nothing.
+-- As code has it: coordinates larger by 0x1e0000, so that none is below 0 (01, "Backgrounds").
+-- No exported contract reaches this file. Assumes nothing.
 use Prim.Native.Nat.{ℕ, _%_, _<_}
 use mathlib.Core.Path.{_≡_}
 use lib.IntN.{ℤ, subℕ}

@@ -1,13 +1,16 @@
--- What code computes with in place of layers and regions: halfwords, which a loop over columns chooses between without
--- branches. Only contracts that `sfx` builds on cite this file. Assumes nothing.
+-- As code has it: layers in four places, a layer as two halfwords and a region as one, which a loop over columns chooses
+-- between without branches (01, "What must change shape").
+-- No exported contract reaches this file. Assumes nothing.
 use Prim.Native.Nat.{ℕ, _+_, _*_, _/_, _%_}
-use mathlib.Core.Path.{_≡_}
-use mathlib.Core.Bool.{Bool, false, cond, not, _&&_}
-use mathlib.Core.List.{List}
-use lib.Dec.{leb, ltb}
+use mathlib.Core.Bool.{cond, Bool, false, not, _&&_}
+use mathlib.Core.List.{List, [], _∷_}
+use lib.Dec.{ltb, leb}
 use lib.ListN.{getD}
+use Rattle.rgb15.specs.Colour.{rgb, isTransparent}
+use Rattle.rgb15.specs.declared.Rgb15.{Rgb15}
+use Rattle.sfx_layers.specs.Layers.{Layer, background}
+use mathlib.Core.Path.{_≡_}
 use Rattle.bits.specs.Bits.{bit}
-use Rattle.rgb15.specs.Colour.{isTransparent}
 use Rattle.memory.specs.Palette.{backdrop}
 use Rattle.regs.specs.Registers.{dispcnt, bgcnt, bldcnt}
 use Rattle.regs.specs.Display.{enableObj}
@@ -22,13 +25,30 @@ use Rattle.regs_blend.specs.declared.layer.RenderLayerKind.the-variants.{Object
 use Rattle.regs.specs.declared.reading.Reading.{Reading}
 use Rattle.obj_entries.specs.declared.Entry.{Entry}
 use Rattle.sfx_regions.specs.Region.{permitted}
-use Rattle.sfx_regions.specs.Row.{regionAt}
+use Rattle.sfx_regions.specs.Code.{regionAt}
 use Rattle.sfx_layers.specs.declared.layer.LayerPair.{LayerPair}
 use Rattle.sfx_layers.specs.declared.layer.LineLayers.{LineLayers}
 
+-- The layer of a place, if it holds a background, before those of the places after it.
+unfoldable pub placedLayer : List ℕ → ℕ → ℕ → List Layer → List Layer
+placedLayer registers place color rest = cond (ltb place 4) (background registers place color ∷ rest) rest
+
+-- The colour of a line at a column.
+abbrev pub lineColor : List Rgb15 → ℕ → ℕ
+lineColor line column = getD line column (rgb 0) .0
+
+-- The layers of the four places at a column, in their order, by the colour line of each.
+unfoldable pub placedLayers : List ℕ → List ℕ → List Rgb15 → List Rgb15 → List Rgb15 → List Rgb15 → ℕ → List Layer
+placedLayers registers at line0 line1 line2 line3 column =
+    placedLayer registers (getD at 0 0) (lineColor line0 column)
+    (placedLayer registers (getD at 1 0) (lineColor line1 column)
+    (placedLayer registers (getD at 2 0) (lineColor line2 column)
+    (placedLayer registers (getD at 3 0) (lineColor line3 column)
+    [])))
+
 -- A truth value as a bit.
-abbrev pub bitOf : Bool → ℕ
-bitOf t = cond t 1 0
+abbrev pub asBit : Bool → ℕ
+asBit t = cond t 1 0
 
 -- An effect's number: 0 none, 1 a blend, 2 white, 3 black.
 abbrev pub modeNumber : BlendMode → ℕ
@@ -41,7 +61,7 @@ modeNumber BldBlack = 3
 
 -- All of a layer but its colour: bit 0 first target, bit 1 second target, bit 2 semi-transparent object, then the priority.
 unfoldable pub layerTag : ℕ → ℕ → RenderLayerKind → ℕ → ℕ
-layerTag first second kind priority = bitOf (targets first kind) + 2 * bitOf (targets second kind) + 8 * priority
+layerTag first second kind priority = asBit (targets first kind) + 2 * asBit (targets second kind) + 8 * priority
 
 -- An object's tag, by the one that all objects share.
 abbrev pub objectTag : ℕ → Entry → ℕ
@@ -133,12 +153,12 @@ permitsPlace flags place = cond (ltb place 4) (permits flags place) false
 -- What a region permits, by its flags: bits 0 to 3 the background of each place, bit 4 objects, bit 5 effects.
 unfoldable pub regionWord : Bool → List ℕ → ℕ → ℕ
 regionWord objects at flags =
-    bitOf (permitsPlace flags (getD at 0 0))
-    + 2 * bitOf (permitsPlace flags (getD at 1 0))
-    + 4 * bitOf (permitsPlace flags (getD at 2 0))
-    + 8 * bitOf (permitsPlace flags (getD at 3 0))
-    + 16 * bitOf (permits flags 4 && objects)
-    + 32 * bitOf (permits flags 5)
+    asBit (permitsPlace flags (getD at 0 0))
+    + 2 * asBit (permitsPlace flags (getD at 1 0))
+    + 4 * asBit (permitsPlace flags (getD at 2 0))
+    + 8 * asBit (permitsPlace flags (getD at 3 0))
+    + 16 * asBit (permits flags 4 && objects)
+    + 32 * asBit (permits flags 5)
 
 -- The word of a column's region.
 abbrev pub columnRegion : Reading → List ℕ → List ℕ → List ℕ → ℕ → ℕ → ℕ

@@ -1,15 +1,29 @@
--- What the code finds of a draw after its first three tests (01, "Numbers a draw may return"). No public contract cites this
--- file. Assumes nothing.
+-- As code has it: what a draw with its lengths has, and what is found of it after the first three tests (01, "Numbers a
+-- draw may return").
+-- No exported contract reaches this file. Assumes nothing.
 use Prim.Native.Nat.{ℕ}
-use mathlib.Core.Bool.{cond, not, _&&_}
+use mathlib.Core.Path.{_≡_}
 use mathlib.Core.List.{List}
+use lib.ListN.{length}
+use Rattle.memory.specs.Memory.{Memory}
+use Rattle.memory.specs.Sizes.{videoRamSize, paletteRamSize, oamSize, registersSize, outputSize}
+use Rattle.obj_entries.specs.Entry.{entriesSize, shapedRow}
+use mathlib.Core.Bool.{cond, not, _&&_}
 use lib.Dec.{eqb, ltb}
 use Rattle.regs.specs.Registers.{dispcnt, bldy}
 use Rattle.regs.specs.Display.{mode, forceBlank}
 use Rattle.gpu_step.specs.References.{References, inRanges}
-use Rattle.obj_entries.specs.Entry.{shapedRow}
 use Rattle.gpu_judge.specs.declared.Verdict.{Verdict}
 use Rattle.gpu_judge.specs.declared.Verdict.the-variants.{BadMode, BadBldy, BadReference, BadEntry, Blank, Accepted}
+
+-- Every buffer has its length.
+pub record Lengths (m : Memory) (entries output : List ℕ) : Type 0 where
+  pub vram-is : length (m .vram) ≡ videoRamSize
+  pub palette-is : length (m .palette) ≡ paletteRamSize
+  pub oam-is : length (m .oam) ≡ oamSize
+  pub registers-is : length (m .registers) ≡ registersSize
+  pub entries-is : length entries ≡ entriesSize
+  pub output-is : length output ≡ outputSize
 
 -- What a draw with its lengths and a line of the screen is found to be; forced blank isn't stopped by 4 to 7.
 unfoldable pub lineVerdict : ℕ → References → List ℕ → List ℕ → Verdict

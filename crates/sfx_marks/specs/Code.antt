@@ -1,5 +1,5 @@
--- Columns of a line, their marks, and a row of which the marked columns are another's (01, "Windows and blending": the columns
--- already claimed are 240 marks). Only contracts that `windows` builds on cite this file. Assumes nothing.
+-- As code has it: the columns already claimed, as marks in four words (01, "Windows and blending").
+-- No exported contract reaches this file. Assumes nothing.
 use Prim.Native.Nat.{ℕ, _-_, _/_, _%_, _^_, _≤_, _<_}
 use mathlib.Core.Path.{_≡_}
 use mathlib.Core.Bool.{Bool, _&&_}

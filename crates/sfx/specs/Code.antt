@@ -1,15 +1,19 @@
--- What code computes of a column's halfwords. No public contract cites this file. Assumes nothing.
+-- As code has it: a colour line for each background, and the colour of a column's halfwords (01, "What must change shape").
+-- No exported contract reaches this file. Assumes nothing.
 use Prim.Native.Nat.{ℕ}
-use mathlib.Core.List.{List}
+use mathlib.Core.List.{List, [], _∷_}
 use lib.ListN.{getD}
+use Rattle.rgb15.specs.declared.Rgb15.{Rgb15}
 use Rattle.bits.specs.Bits.{bit}
 use Rattle.rgb15.specs.Colour.{rgb}
-use Rattle.rgb15.specs.declared.Rgb15.{Rgb15}
-use Rattle.sfx_layers.specs.Places.{lineColor}
-use Rattle.sfx_layers.specs.Words.{putObject, backgroundPair}
+use Rattle.sfx_layers.specs.Code.{lineColor, putObject, backgroundPair}
 use Rattle.sfx_layers.specs.declared.layer.LineLayers.{LineLayers}
-use Rattle.sfx_effects.specs.Words.{fadedColor, pairColor}
+use Rattle.sfx_effects.specs.Code.{fadedColor, pairColor}
 use Rattle.sfx_effects.specs.declared.Weights.{Weights}
+
+-- The line of a background, of those of backgrounds 0 to 3; the last stands for any other number.
+unfoldable pub bgLine : List Rgb15 → List Rgb15 → List Rgb15 → List Rgb15 → ℕ → List Rgb15
+bgLine line0 line1 line2 line3 bg = getD (line0 ∷ line1 ∷ line2 ∷ line3 ∷ []) bg line3
 
 -- ---- a column
 

@@ -1,5 +1,5 @@
--- What the steps of the pass make of a row of entries, and what they pass by (01, "Sprites"). No public contract cites this
--- file. Assumes nothing.
+-- As code has it: what the steps of the pass make of a row of entries, and what they pass by (01, "Sprites").
+-- No exported contract reaches this file. Assumes nothing.
 use Prim.Native.Nat.{ℕ, _+_, _-_, _≤_, _<_}
 use mathlib.Core.Path.{_≡_}
 use mathlib.Core.Bool.{true, false}

@@ -1,5 +1,5 @@
--- What the code computes on values, between the lent row and the bytes. No exported contract cites this file.
--- Assumes nothing.
+-- As code has it: the draw on values, between the lent row and its bytes (01, "What must change shape").
+-- No exported contract reaches this file. Assumes nothing.
 use Prim.Native.Nat.{ℕ}
 use mathlib.Core.Bool.{cond}
 use mathlib.Core.List.{List}

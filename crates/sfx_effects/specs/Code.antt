@@ -1,5 +1,5 @@
--- What code computes with in place of effects: truth values and weights, which a loop over columns chooses between without
--- branches. Only contracts that `sfx` builds on cite this file. Assumes nothing.
+-- As code has it: a column's effect as two truth values and weights (01, "Windows and blending").
+-- No exported contract reaches this file. Assumes nothing.
 use Prim.Native.Nat.{ℕ, _-_, _≤_}
 use mathlib.Core.Path.{_≡_}
 use mathlib.Core.Bool.{Bool, cond, _&&_, _||_}

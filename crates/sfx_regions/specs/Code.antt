@@ -1,5 +1,6 @@
--- A line as a word a column, which is that of the column's region (01, "Windows and blending"; GBATEK, "LCD I/O Window
--- Feature"). Assumes nothing.
+-- As code has it: a line as a word a column, and the columns that each window claims (01, "Windows and blending"; GBATEK,
+-- "LCD I/O Window Feature").
+-- No exported contract reaches this file. Assumes nothing.
 use Prim.Native.Nat.{ℕ}
 use mathlib.Core.List.{List}
 use Rattle.rows.specs.Cells.{cellAt}
@@ -11,6 +12,10 @@ use Rattle.sfx_regions.specs.Region.{region}
 use Rattle.sfx_regions.specs.declared.RegionWords.{RegionWords}
 use Rattle.sfx_regions.specs.declared.WindowType.{WindowType}
 use Rattle.sfx_regions.specs.declared.WindowType.the-variants.{Win0, Win1, WinObj, WinOut, WinNone}
+use mathlib.Core.Path.{_≡_}
+use mathlib.Core.Bool.{Bool, cond, _&&_}
+use Rattle.sfx_marks.specs.Code.{holds, Spanned}
+use Rattle.sfx_marks.specs.declared.Columns.{Columns}
 
 -- The word of a region.
 unfoldable pub wordIn : RegionWords → WindowType → ℕ
@@ -29,3 +34,19 @@ regionAt reading registers entries column line =
 abbrev pub regionRow : Reading → List ℕ → List ℕ → ℕ → RegionWords → List ℕ
 regionRow reading registers entries line words =
     tab (λ column. wordIn words (regionAt reading registers entries column line)) displayWidth
+
+-- Columns are those that the test picks.
+pub record ColumnsOf (test : ℕ → Bool) (c : Columns) : Type 0 where
+  pub spanned : Spanned c
+  pub same : (k : ℕ) → holds c k ≡ test k
+
+-- A column's word with windows on: of the first of window 0's columns, window 1's, and the object window that hold it.
+unfoldable pub walkedWord : List ℕ → Bool → Columns → Columns → RegionWords → ℕ → ℕ
+walkedWord entries objWindow win0 win1 words k =
+    cond (holds win0 k) (words .win0)
+    (cond (holds win1 k) (words .win1)
+    (cond (objWindow && windowMark (cellAt entryCells entries k)) (words .winobj) (words .winout)))
+
+-- The words of the 240 columns.
+abbrev pub walkedRow : List ℕ → Bool → Columns → Columns → RegionWords → List ℕ
+walkedRow entries objWindow win0 win1 words = tab (walkedWord entries objWindow win0 win1 words) 240

@@ -1,5 +1,5 @@
--- What an accepted draw has, for the code that draws it (01, "Numbers a draw may return"). No public contract cites this
--- file. Assumes nothing.
+-- As code has it: what an accepted draw has, and a background that may be off (01, "Numbers a draw may return").
+-- No exported contract reaches this file. Assumes nothing.
 use Prim.Native.Nat.{ℕ, _≤_, _<_}
 use mathlib.Core.Path.{_≡_}
 use mathlib.Core.Bool.{Bool, true, cond}
@@ -12,7 +12,7 @@ use Rattle.gpu_step.specs.References.{References, inRanges}
 use Rattle.bg.specs.Background.{backgroundColor}
 use Rattle.obj_entries.specs.Entry.{shapedRow}
 use Rattle.gpu_judge.specs.Judge.{Call}
-use Rattle.gpu_judge.specs.Lengths.{Lengths}
+use Rattle.gpu_judge.specs.Code.{Lengths}
 
 -- What the tests of a draw leave.
 pub record Ready (c : Call) (entries output : List ℕ) : Type 0 where

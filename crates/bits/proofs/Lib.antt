@@ -1,0 +1,2 @@
+-- Laws of tests. Assumes nothing.
+pub mod Booleans
