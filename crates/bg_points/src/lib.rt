@@ -6,6 +6,10 @@ ghost use lib.IntN.{pos, subℕ, _+ℤ_, _*ℤ_};
 ghost use Rattle.signed.specs.Signed.{down256, wrapped, within};
 ghost use Rattle.bg_points.specs.Code.{coordinate, Side};
 ghost use Rattle.bg_points.specs.Point.{shows};
+
+mod references;
+
+pub use references::References;
 use signed::HALF_BIAS;
 
 // What a number is larger by than the coordinate that it stands for: a multiple of every side.

@@ -1,0 +1,30 @@
+-- Laws of four reference numbers. No contract cites this file. Assumes nothing.
+use mathlib.Core.Path.{_≡_}
+use mathlib.Core.Bool.{Bool, true, _&&_}
+use lib.IntN.{ℤ}
+use Rattle.signed.specs.Signed.{inRange}
+use Rattle.bits.proofs.Booleans.{and-both}
+use Rattle.bg_points.specs.References.{inRanges}
+use Rattle.bg_points.specs.declared.references.References.{References}
+
+-- The four tests of a draw's reference numbers together.
+pub ranges-are : {t2 u2 t3 u3 : Bool} (r : References)
+    → t2 ≡ inRange (r .x2) → u2 ≡ inRange (r .y2) → t3 ≡ inRange (r .x3) → u3 ≡ inRange (r .y3)
+    → (((t2 && u2) && t3) && u3) ≡ inRanges r
+unfolding inRanges
+ranges-are r t2-is u2-is t3-is u3-is = rw (t2-is, u2-is, t3-is, u3-is)
+
+-- Each of four reference numbers is in range.
+pub record AllInRange (r : References) : Type 0 where
+  pub x2-in : inRange (r .x2) ≡ true
+  pub y2-in : inRange (r .y2) ≡ true
+  pub x3-in : inRange (r .x3) ≡ true
+  pub y3-in : inRange (r .y3) ≡ true
+
+pub ranges-true : (r : References) → inRanges r ≡ true → AllInRange r
+unfolding inRanges
+ranges-true r h =
+    let three = and-both (inRange (r .x2) && inRange (r .y2) && inRange (r .x3)) (inRange (r .y3)) h in
+    let two = and-both (inRange (r .x2) && inRange (r .y2)) (inRange (r .x3)) (three .0) in
+    let one = and-both (inRange (r .x2)) (inRange (r .y2)) (two .0) in
+    record { x2-in = one .0; y2-in = one .1; x3-in = two .1; y3-in = three .1 }
