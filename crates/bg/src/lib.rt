@@ -20,14 +20,13 @@ pub use affine::render_aff_bg;
 use bg_regular::render_reg_bg;
 pub use bitmap::render_bitmap;
 use memory::read_16;
+use regs::iodev::BG0CNT;
 use regs::iodev::read_dispcnt;
 use regs::iodev::read_hofs;
 use regs::iodev::read_pa;
 use regs::iodev::read_pc;
 use regs::iodev::read_vofs;
 use rgb15::Rgb15;
-
-const BG0CNT: usize = 0x08;
 
 // What a background is in a mode.
 pub enum BgKind {

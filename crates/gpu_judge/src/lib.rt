@@ -6,22 +6,19 @@ ghost use Rattle.obj_entries.specs.Entry.{entriesSize};
 ghost use Rattle.gpu_judge.specs.Judge.{callOf, haveLengths, verdict, numberOf};
 ghost use Rattle.gpu_judge.specs.Code.{lineVerdict};
 use gpu_step::in_ranges;
+use memory::DISPLAY_HEIGHT;
+use memory::OAM_SIZE;
+use memory::OUTPUT_SIZE;
+use memory::PALETTE_RAM_SIZE;
+use memory::REGISTERS_SIZE;
+use memory::VIDEO_RAM_SIZE;
 use obj_entries::ENTRIES_SIZE;
 use obj_entries::shaped_row;
 use regs::iodev::read_dispcnt;
 use regs_blend::read_bldy;
 
-const VIDEO_RAM_SIZE: usize = 0x20000;
-
-const PALETTE_RAM_SIZE: usize = 0x400;
-
-const OAM_SIZE: usize = 0x400;
-
-const REGISTERS_SIZE: usize = 0x56;
-
-const OUTPUT_SIZE: usize = 960;
-
-const LINES: u32 = 160;
+// Lines of the screen, as a line is asked for.
+const LINES: u32 = DISPLAY_HEIGHT as u32;
 
 // What a draw's input is found to be.
 pub enum Verdict {

@@ -6,12 +6,10 @@ ghost use lib.ListN.{length};
 ghost use Rattle.obj_entries.specs.Entry.{entriesSize};
 ghost use Rattle.gpu_records.specs.Entries.{entryOfRecord, recordOf, rowBytes, recordsIn};
 use memory::DISPLAY_WIDTH;
+use obj_entries::ENTRIES_SIZE;
 use obj_entries::Entry;
 use obj_entries::entry_at;
 use obj_entries::put_entry;
-
-// Bytes of a row.
-const ENTRIES_SIZE: usize = 960;
 
 // A colour as rgb15 has it, with a layout that a host can rely on.
 #[repr(C)]

@@ -8,6 +8,17 @@ ghost use Rattle.memory.specs.Palette.{paletteColor, backdrop};
 ghost use Rattle.memory.specs.Tiles.{tileSize, colours, paletteBank, tilePixel};
 use rgb15::Rgb15;
 
+// What is lent, in bytes.
+pub const VIDEO_RAM_SIZE: usize = 0x20000;
+
+pub const PALETTE_RAM_SIZE: usize = 0x400;
+
+pub const OAM_SIZE: usize = 0x400;
+
+pub const REGISTERS_SIZE: usize = 0x56;
+
+pub const OUTPUT_SIZE: usize = 4 * DISPLAY_WIDTH;
+
 pub const DISPLAY_WIDTH: usize = 240;
 
 pub const DISPLAY_HEIGHT: usize = 160;

@@ -8,18 +8,16 @@ ghost use Rattle.rows.specs.Cells.{cellAt, putCell};
 ghost use Rattle.obj_entries.specs.Entry.{entriesSize, entryCells, resetEntry, resetRow, wellShaped, shapedRow};
 ghost use Rattle.obj_entries.specs.Code.{entryOfWord};
 ghost use Rattle.obj_entries.specs.Reset.{Resets};
+use memory::DISPLAY_WIDTH;
 use rgb15::Rgb15;
 use rows::put_word;
 use rows::word_at;
 
-// Entries of a row, one for each column of the screen.
-const ENTRIES: usize = 240;
-
 // Bytes of an entry.
 const ENTRY_SIZE: usize = 4;
 
-// Bytes of a row.
-pub const ENTRIES_SIZE: usize = 960;
+// Bytes of a row, which has an entry for each column of the screen.
+pub const ENTRIES_SIZE: usize = ENTRY_SIZE * DISPLAY_WIDTH;
 
 // What a column's entry holds; marks has bit 0 for semi-transparent and bit 1 for window.
 pub struct Entry {
@@ -99,7 +97,7 @@ pub fn reset_row(entries: &mut [u8])
     ensures { λ _. ⌜ now (entries .exit) ≡ resetRow ⌝ }
 {
     let mut k: usize = 0;
-    while k < ENTRIES {
+    while k < DISPLAY_WIDTH {
         put_entry(entries, k, reset_entry());
         k += 1;
     }
@@ -133,7 +131,7 @@ pub fn shaped_row(entries: &[u8]) -> bool
 {
     let mut faults: u32 = 0;
     let mut k: usize = 0;
-    while k < ENTRIES {
+    while k < DISPLAY_WIDTH {
         faults += fault(word_at(entries, k));
         k += 1;
     }

@@ -24,18 +24,6 @@ unfoldable pub rowTexel : Reading → ObjMapping → List ℕ → List ℕ → O
 rowTexel reading mapping vram palette s y x =
     cond (ltb x (s .width)) (texel reading mapping vram palette s (flip (s .«h_flip») (s .width) x) y) transparent
 
--- The colour of column i of an affine sprite's box, at that column's point.
-abbrev pub pointColor : Reading → ObjMapping → List ℕ → List ℕ → ObjAttrs → Turn → ℕ → ℕ
-pointColor reading mapping vram palette s t i =
-    colorAt reading mapping vram palette s
-    (subℕ (pointAt (t .x) (t .pa) i (s .width)) (2 ^ 16))
-    (subℕ (pointAt (t .y) (t .pc) i (s .height)) (2 ^ 16))
-
--- The colour of column i of an affine sprite's box, for the columns from one up to another; in the others there is none.
-unfoldable pub affineTexel : Reading → ObjMapping → List ℕ → List ℕ → ObjAttrs → Turn → ℕ → ℕ → ℕ → ℕ
-affineTexel reading mapping vram palette s t from to i =
-    cond (between from to i) (pointColor reading mapping vram palette s t i) transparent
-
 -- A matrix with each number 2^15 larger.
 pub record MatrixOf (m : Matrix) (r : AffineMatrix) : Type 0 where
   pub pa-is : m .pa ≡ subℕ (r .pa) (2 ^ 15)
@@ -80,3 +68,15 @@ pub record TurnOf (m : Matrix) (s : ObjAttrs) (iy : ℤ) (t : Turn) : Type 0 whe
   pub y-is : (i : ℕ) → i ≤ 127
       → turn (m .pc) (m .pd) (pos i -ℤ pos (boxWidth s / 2)) iy (s .height)
       ≡ subℕ (pointAt (t .y) (t .pc) i (s .height)) (2 ^ 16)
+
+-- The colour of column i of an affine sprite's box, at that column's point.
+abbrev pub pointColor : Reading → ObjMapping → List ℕ → List ℕ → ObjAttrs → Turn → ℕ → ℕ
+pointColor reading mapping vram palette s t i =
+    colorAt reading mapping vram palette s
+    (subℕ (pointAt (t .x) (t .pa) i (s .width)) (2 ^ 16))
+    (subℕ (pointAt (t .y) (t .pc) i (s .height)) (2 ^ 16))
+
+-- The colour of column i of an affine sprite's box, for the columns from one up to another; in the others there is none.
+unfoldable pub affineTexel : Reading → ObjMapping → List ℕ → List ℕ → ObjAttrs → Turn → ℕ → ℕ → ℕ → ℕ
+affineTexel reading mapping vram palette s t from to i =
+    cond (between from to i) (pointColor reading mapping vram palette s t i) transparent

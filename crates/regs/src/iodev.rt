@@ -10,17 +10,36 @@ use crate::BgControl;
 use crate::DisplayControl;
 use memory::read_16;
 
-const DISPCNT: usize = 0x00;
+// The I/O offsets of the registers that a line is drawn from.
+pub const DISPCNT: usize = 0x00;
 
-const BG0CNT: usize = 0x08;
+pub const BG0CNT: usize = 0x08;
 
-const BG0HOFS: usize = 0x10;
+pub const BG0HOFS: usize = 0x10;
 
-const BG0VOFS: usize = 0x12;
+pub const BG0VOFS: usize = 0x12;
 
-const BG2PA: usize = 0x20;
+pub const BG2PA: usize = 0x20;
 
-const BG2PC: usize = 0x24;
+pub const BG2PC: usize = 0x24;
+
+pub const WIN0H: usize = 0x40;
+
+pub const WIN1H: usize = 0x42;
+
+pub const WIN0V: usize = 0x44;
+
+pub const WIN1V: usize = 0x46;
+
+pub const WININ: usize = 0x48;
+
+pub const WINOUT: usize = 0x4a;
+
+pub const BLDCNT: usize = 0x50;
+
+pub const BLDALPHA: usize = 0x52;
+
+pub const BLDY: usize = 0x54;
 
 pub fn read_dispcnt(registers: &[u8]) -> DisplayControl
     requires { ⌜ length (now registers) ≡ registersSize ⌝ }

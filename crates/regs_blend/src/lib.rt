@@ -12,12 +12,9 @@ mod layer;
 
 pub use layer::RenderLayerKind;
 use memory::read_16;
-
-const BLDCNT: usize = 0x50;
-
-const BLDALPHA: usize = 0x52;
-
-const BLDY: usize = 0x54;
+use regs::iodev::BLDALPHA;
+use regs::iodev::BLDCNT;
+use regs::iodev::BLDY;
 
 // Layers, as six bits: backgrounds 0 to 3, objects, backdrop.
 pub struct BlendFlags(pub u16);

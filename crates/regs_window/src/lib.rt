@@ -10,18 +10,12 @@ ghost use Rattle.regs_window.specs.Windows.{WindowOf, Window0Of, Window1
 use memory::DISPLAY_HEIGHT;
 use memory::DISPLAY_WIDTH;
 use memory::read_16;
-
-const WIN0H: usize = 0x40;
-
-const WIN1H: usize = 0x42;
-
-const WIN0V: usize = 0x44;
-
-const WIN1V: usize = 0x46;
-
-const WININ: usize = 0x48;
-
-const WINOUT: usize = 0x4a;
+use regs::iodev::WIN0H;
+use regs::iodev::WIN0V;
+use regs::iodev::WIN1H;
+use regs::iodev::WIN1V;
+use regs::iodev::WININ;
+use regs::iodev::WINOUT;
 
 // What a region permits, as six bits: backgrounds 0 to 3, objects, effects.
 pub struct WindowFlags(pub u16);
