@@ -1,5 +1,5 @@
 -- Laws of reads. No contract cites this file. Assumes nothing.
-use Prim.Native.Nat.{ℕ, zero, suc, _+_, _*_, _%_, _≤_, _<_}
+use Prim.Native.Nat.{ℕ, zero, suc, _≤_, _<_}
 use native.Mathlib.Omega.{arith}
 use mathlib.Core.Path.{_≡_, refl, sym, _∙_}
 use mathlib.Core.Bool.{Bool, true, false, cond}
@@ -9,9 +9,9 @@ use mir.Syntax.{w8}
 use mir.Val.{Fits}
 use borrow.Author.Tests.{ne-eqb}
 use Rattle.rgb15.specs.Colour.{transparent, isTransparent}
-use Rattle.memory.specs.Memory.{byte, half}
+use Rattle.memory.specs.Memory.{byte}
 use Rattle.memory.specs.Palette.{paletteColor}
-use Rattle.memory.specs.Tiles.{tileSize, colours, paletteBank, tilePixel}
+use Rattle.memory.specs.Tiles.{tileSize}
 use Rattle.memory.specs.declared.PixelFormat.{PixelFormat}
 use Rattle.memory.specs.declared.PixelFormat.the-variants.{BPP4, BPP8}
 
@@ -23,11 +23,6 @@ Bytes bytes = (at : ℕ) → Fits w8 (byte bytes at)
 pub split : {A : Type 0} (P : A → Type 0) (t : Bool) {x y : A} → (t ≡ true → P x) → (t ≡ false → P y) → P (cond t x y)
 split P true f g = f refl
 split P false f g = g refl
-
--- A halfword is below 0x10000.
-pub half-bound : (bytes : List ℕ) → Bytes bytes → (at : ℕ) → half bytes at < 0x10000
-unfolding half
-half-bound bytes small at = omega (arith, small at, small (at + 1))
 
 -- A tile is at most 64 bytes.
 pub tileSize-bound : (format : PixelFormat) → tileSize format ≤ 64
@@ -53,22 +48,3 @@ module _ (palette : List ℕ) (offset bank : ℕ) where
       let opaque = paletteColor-bound (suc index) (λ z. omega arith) in
       ne-eqb (paletteColor palette offset (suc index) bank) transparent (λ e. omega arith)
       ∙ sym (eqb·suc-zero index)
-
--- No format has more than 256 colours.
-pub colours-bound : (format : PixelFormat) → colours format ≤ 256
-colours-bound BPP4 = omega arith
-colours-bound BPP8 = omega arith
-
--- The colours of a bank lie among the palette's 256.
-pub paletteBank-bound : (format : PixelFormat) (bank : ℕ) → bank < 16 →
-    16 * paletteBank format bank + colours format ≤ 256
-paletteBank-bound BPP4 bank small = omega arith
-paletteBank-bound BPP8 bank small = omega arith
-
--- A pixel is one of its format's colours.
-pub tilePixel-bound : (vram : List ℕ) → Bytes vram → (addr x y : ℕ) (format : PixelFormat) →
-    tilePixel vram addr x y format < colours format
-unfolding tilePixel
-tilePixel-bound vram small addr x y BPP4 =
-    split (λ (p : ℕ). p < 16) (eqb (x % 2) 0) (λ t. omega arith) (λ t. omega arith)
-tilePixel-bound vram small addr x y BPP8 = small (addr + 8 * y + x) .fits

@@ -3,19 +3,13 @@
 use Prim.Native.Nat.{ℕ, _≤_}
 use native.Mathlib.Omega.{arith}
 use mathlib.Core.Path.{_≡_}
-use mathlib.Core.Bool.{false}
-use borrow.Author.Tests.{ne-eqb}
-use Rattle.rgb15.specs.Colour.{red, green, blue, transparent, toRgb24, fromRgb, isTransparent, blendChannel, blendWith}
+use Rattle.rgb15.specs.Colour.{red, green, blue, toRgb24, fromRgb, blendChannel, blendWith}
 
 -- A colour has these three channels.
 pub record Channels (colour r g b : ℕ) : Type 0 where
   pub red-is : red colour ≡ r
   pub green-is : green colour ≡ g
   pub blue-is : blue colour ≡ b
-
--- The top byte of the output is 0.
-pub toRgb24-bound : (colour : ℕ) → toRgb24 colour ≤ 0xf8f8f8
-toRgb24-bound colour = omega arith
 
 -- A colour has the channels that it was made of.
 pub channels-fromRgb : {r g b : ℕ} → r ≤ 31 → g ≤ 31 → b ≤ 31 → Channels (fromRgb r g b) r g b
@@ -40,13 +34,6 @@ module _ (x y wa wb : ℕ) where
   unfolding blendWith
   channels-blendWith =
       channels-fromRgb (blendChannel-bound _ _ _ _) (blendChannel-bound _ _ _ _) (blendChannel-bound _ _ _ _)
-
-  pub blendWith-bound : blendWith x y wa wb ≤ 0x7fff
-  unfolding blendWith
-  blendWith-bound = omega arith
-
-  pub isTransparent-blendWith : isTransparent (blendWith x y wa wb) ≡ false
-  isTransparent-blendWith = ne-eqb (blendWith x y wa wb) transparent (λ e. omega (arith, blendWith-bound))
 
 -- With weights 16 and 0 the first colour shows.
 pub toRgb24-blendWith-first : (x y : ℕ) → toRgb24 (blendWith x y 16 0) ≡ toRgb24 x

@@ -4,10 +4,9 @@ use mathlib.Core.Bool.{Bool, true, false, _&&_, cond, and-false}
 use mathlib.Core.Logic.{⊎-elim}
 use Prim.Native.Nat.{ℕ, zero, suc, _+_, _*_, _≤_, _<_}
 use native.Mathlib.Nat.{eq-or-lt-of-le, le-of-suc-le-suc, not-suc-le-zero, zero-add, add-zero, mul-suc}
-use native.Mathlib.Numerals.{add-one}
 use native.Mathlib.Omega.{arith}
 use lib.Dec.{eqb, leb, eqb·suc-zero}
-use borrow.Author.Tests.{ne-eqb, eqb-true, eqb-false, le-leb, lt-leb, lt-ltb, le-ltb}
+use borrow.Author.Tests.{ne-eqb, le-leb, lt-leb, lt-ltb, le-ltb}
 use Rattle.rows.specs.Below.{allBelow, tally, countBelow, between}
 
 -- What holds of each number below n, and of n, holds of each below the next.
@@ -30,14 +29,6 @@ unfolding between
 between-past left right k h = simp (le-ltb k right h) (and-false (leb left k))
 
 -- ---- a test of each number below n
-
-pub allBelow-none : (test : ℕ → Bool) → allBelow test 0 ≡ true
-unfolding allBelow
-allBelow-none test = refl
-
-pub allBelow-more : (test : ℕ → Bool) (n : ℕ) → allBelow test n ≡ true → test n ≡ true → allBelow test (n + 1) ≡ true
-unfolding allBelow
-allBelow-more test n p q = ap (allBelow test) (add-one n) ∙ ap₂ _&&_ p q
 
 pub allBelow-fails : (test : ℕ → Bool) (n k : ℕ) → k < n → test k ≡ false → allBelow test n ≡ false
 unfolding allBelow
@@ -71,11 +62,6 @@ allBelow-at test n e k lt = go (test k) refl
 pub tally-none : (f : ℕ → ℕ) → 0 ≡ tally f 0
 unfolding tally
 tally-none f = refl
-
--- One number more, which added a.
-pub tally-more : (f : ℕ → ℕ) (n : ℕ) {s a : ℕ} → s ≡ tally f n → a ≡ f n → s + a ≡ tally f (n + 1)
-unfolding tally
-tally-more f n p q = ap₂ _+_ p q ∙ ap (tally f) (sym (add-one n))
 
 pub tally-cong : (f g : ℕ → ℕ) (n : ℕ) → ((k : ℕ) → k < n → f k ≡ g k) → tally f n ≡ tally g n
 unfolding tally
@@ -141,15 +127,6 @@ unfolding tally
 countBelow-ext test zero h = refl
 countBelow-ext test (suc n) h =
     rw (h n (omega arith)) (omega (arith, countBelow-ext test n (λ k lt. h k (omega arith))))
-
-pub allBelow-countBelow : (test : ℕ → Bool) (n : ℕ) → eqb (countBelow test n) n ≡ allBelow test n
-allBelow-countBelow test n = go (eqb (countBelow test n) n) refl (allBelow test n) refl
-  where
-    go : (a : Bool) → eqb (countBelow test n) n ≡ a → (b : Bool) → allBelow test n ≡ b → a ≡ b
-    go true p true q = refl
-    go false p false q = refl
-    go true p false q = sym (allBelow-ext test n (countBelow-full test n (eqb-true (countBelow test n) n p))) ∙ q
-    go false p true q = absurd (eqb-false (countBelow test n) n p (countBelow-ext test n (allBelow-at test n q)))
 
 -- A number of which the test did not hold and now does counts one more.
 module _ (p q : ℕ → Bool) where

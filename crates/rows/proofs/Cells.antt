@@ -43,15 +43,6 @@ module _ {A : Type 0} {w : ℕ} (c : Codec A w) where
           let q : k < j = omega arith in
           bytesFrom-putFrom-past w l (w * k) (w * j) (c .enc a) (omega (arith, c .length-enc a, apart w q))
 
-  pub cellAt-putCell-same : (l : List ℕ) (k : ℕ) (a : A) → w * k + w ≤ length l → cellAt c (putCell c l k a) k ≡ a
-  unfolding cellAt
-  cellAt-putCell-same l k a h = ap (c .dec) (bytes-putCell-same l k a h) ∙ c .dec-enc a
-
-  pub cellAt-putCell-other : (l : List ℕ) (k j : ℕ) (a : A) → (j ≡ k → ⊥)
-      → cellAt c (putCell c l k a) j ≡ cellAt c l j
-  unfolding cellAt
-  cellAt-putCell-other l k j a h = ap (c .dec) (bytes-putCell-other l k j a h)
-
   -- A cell put where it stands changes nothing, if its bytes are exact.
   pub putCell-same : (l : List ℕ) (k : ℕ) → Exact c l k → putCell c l k (cellAt c l k) ≡ l
   unfolding putCell

@@ -127,13 +127,6 @@ module _ {A : Type 0} {w : ℕ} (c : Codec A w) where
             ∙ mapRow-cong c _ (done (s + 1)) n l₀ step;
       }
 
-  -- A turn, which left the row as it was.
-  pub composed-rest : {done : ℕ → ℕ → A → A} {n count s : ℕ} {l₀ l : List ℕ}
-      → Composed done n count l₀ s l → s < count → ((k : ℕ) → k < n → (a : A) → done s k a ≡ done (s + 1) k a)
-      → Composed done n count l₀ (s + 1) l
-  composed-rest {done} {n} {count} {s} {l₀} {l} p h step =
-      record { bound = omega arith; size = p .size; made = p .made ∙ mapRow-cong c (done s) (done (s + 1)) n l₀ step }
-
   pub composed-all : {done : ℕ → ℕ → A → A} {n count s : ℕ} {l₀ l : List ℕ}
       → Composed done n count l₀ s l → count ≤ s → l ≡ mapRow c (done count) n l₀
   composed-all {done} {n} {count} {s} {l₀} {l} p h =

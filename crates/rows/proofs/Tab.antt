@@ -1,7 +1,7 @@
 -- Laws of lists given by their elements, of any type. No contract cites this file. Assumes nothing.
 use mathlib.Core.Path.{_≡_, refl, sym, ap, _∙_}
 use mathlib.Core.List.{List, [], _∷_, _++_}
-use Prim.Native.Nat.{ℕ, zero, suc, _+_, _≤_, _<_}
+use Prim.Native.Nat.{ℕ, zero, suc, _+_, _<_}
 use native.Mathlib.Nat.{not-suc-le-zero}
 use native.Mathlib.Omega.{arith}
 use lib.ListN.{length, getD, replicate, length-append, length-replicate, getD-replicate, List·getD-append}
@@ -47,8 +47,3 @@ module _ {A : Type 0} where
   pub tab-replicate : (a : A) (n : ℕ) → replicate n a ≡ tab (λ _. a) n
   tab-replicate a n =
       tab-ext (λ _. a) n a (replicate n a) (length-replicate n a) (λ k lt. getD-replicate n k a a lt)
-
-  -- A part of a longer list, from place s on.
-  pub tab-part : (f : ℕ → A) (m n s : ℕ) (d : A) → n + s ≤ m
-      → tab (λ k. getD (tab f m) (k + s) d) n ≡ tab (λ k. f (k + s)) n
-  tab-part f m n s d h = tab-cong _ _ n (λ k lt. getD-tab f m (k + s) d (omega arith))

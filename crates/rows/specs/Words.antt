@@ -7,16 +7,6 @@ use native.Mathlib.Omega.{arith}
 use lib.ListN.{getD}
 use Rattle.rows.specs.Cells.{Codec}
 
--- A number in two bytes.
-unfoldable pub halfCells : Codec ℕ 2
-halfCells =
-    record {
-      enc = λ n. n % 256 ∷ n / 256 ∷ [];
-      dec = λ bs. getD bs 0 0 + 256 * getD bs 1 0;
-      length-enc = λ n. refl;
-      dec-enc = λ n. omega arith;
-    }
-
 -- A number in four bytes.
 unfoldable pub wordCells : Codec ℕ 4
 wordCells =

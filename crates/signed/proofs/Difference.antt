@@ -42,22 +42,6 @@ subℕ-cross a b c d e = go (view c d)
     go (up k p) = subℕ-view a b (up k (omega arith))
     go (down k p) = subℕ-view a b (down k (omega arith))
 
-pos-inj : (k l : ℕ) → pos k ≡ pos l → k ≡ l
-pos-inj k l e = cc
-
-negsuc-inj : (k l : ℕ) → negsuc k ≡ negsuc l → k ≡ l
-negsuc-inj k l e = cc
-
--- And only there, so that a number and a bias determine what is lifted.
-pub subℕ-inj : (a b c d : ℕ) → subℕ a b ≡ subℕ c d → a + d ≡ c + b
-subℕ-inj a b c d = go (view a b) (view c d)
-  where
-    go : {y z : ℤ} → View a b y → View c d z → y ≡ z → a + d ≡ c + b
-    go (up k p) (up l q) e = let h = pos-inj k l e in omega arith
-    go (up k p) (down l q) e = cc
-    go (down k p) (up l q) e = cc
-    go (down k p) (down l q) e = let h = negsuc-inj k l e in omega arith
-
 pub add-subℕ : (a b c d : ℕ) → subℕ a b +ℤ subℕ c d ≡ subℕ (a + c) (b + d)
 add-subℕ a b c d = go (view a b) (view c d)
   where

@@ -5,5 +5,4 @@ pub mod Remainder
 pub mod Range
 pub mod Words
 pub mod Bias
-pub mod Step
 pub mod Point

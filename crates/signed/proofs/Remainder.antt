@@ -1,15 +1,14 @@
 -- Differences rounded down, wrapped and tested against a side, by naturals. No contract cites this file. Assumes nothing.
 use mathlib.Core.Path.{_≡_, sym, ap, _∙_}
-use mathlib.Core.Bool.{true, false, _&&_}
+use mathlib.Core.Bool.{false, _&&_}
 use Prim.Native.Nat.{ℕ, suc, _+_, _-_, _*_, _/_, _%_, _≤_, _<_}
 use native.Mathlib.Nat.{mul-suc, div-add-mod, mod-lt, mod-eq-of-lt, add-mul-mod-self-left, mul-add-mod-self-left}
 use native.Mathlib.Omega.{arith}
 use lib.Dec.{leb, ltb}
-use lib.IntN.{ℤ, pos, negsuc, negℤ, subℕ, _+ℤ_, _*ℤ_}
-use lib.Signed.{shrZ}
-use borrow.Author.Tests.{ltb-true, le-leb, lt-leb}
+use lib.IntN.{ℤ, subℕ}
+use borrow.Author.Tests.{le-leb, lt-leb}
 use Rattle.signed.specs.Signed.{down256, wrapped, within}
-use Rattle.signed.proofs.Difference.{View, up, down, view, subℕ-view, subℕ-zero, subℕ-cross, neg-subℕ, add-subℕ-pos}
+use Rattle.signed.proofs.Difference.{View, up, down, view, subℕ-view, subℕ-cross}
 use Rattle.bits.proofs.Booleans.{leb-same}
 
 pub down256-subℕ : (a bias : ℕ) → down256 (subℕ a (256 * bias)) ≡ subℕ (a / 256) bias
@@ -24,23 +23,6 @@ pub down256-cross : (a b n bias : ℕ) → n + b ≡ a + 256 * bias → down256 
 down256-cross a b n bias e = ap down256 (subℕ-cross a b n (256 * bias) (omega arith)) ∙ down256-subℕ n bias
 
 module _ (m : ℕ) (m>0 : 0 < m) where
-  pub wrapped-bound : (z : ℤ) → wrapped z m < m
-  unfolding wrapped
-  wrapped-bound (pos n) = mod-lt n m>0
-  wrapped-bound (negsuc n) = omega arith
-
-  -- A number is m times what it gives rounded down, and what is wrapped.
-  pub wrapped-rest : (z : ℤ) → pos m *ℤ shrZ z m +ℤ pos (wrapped z m) ≡ z
-  unfolding wrapped
-  wrapped-rest (pos n) = ap pos (div-add-mod n m)
-  wrapped-rest (negsuc n) =
-      let taken = m * suc (n / m) in
-      let left = m - 1 - n % m in
-      let e : taken ≡ left + suc n = omega (arith, mul-suc m (n / m), div-add-mod n m, mod-lt n m>0) in
-      ap (λ (z : ℤ). z +ℤ pos left) (ap negℤ (sym (subℕ-zero taken)) ∙ neg-subℕ taken 0)
-      ∙ add-subℕ-pos 0 taken left
-      ∙ subℕ-view (0 + left) taken (down n (omega arith))
-
   -- A difference is wrapped as its natural is, where m divides what is taken off.
   pub wrapped-subℕ : (r bias : ℕ) → bias % m ≡ 0 → wrapped (subℕ r bias) m ≡ r % m
   unfolding wrapped
@@ -62,12 +44,6 @@ module _ (m : ℕ) (m>0 : 0 < m) where
           ∙ sym (mul-add-mod-self-left m (bias / m) (m - 1 - k % m))
           ∙ ap (λ (n : ℕ). n % m) (turns k p)
           ∙ add-mul-mod-self-left r m (suc (k / m))
-
--- A number that is one of 0 .. m - 1 is wrapped to itself.
-pub wrapped-within : (z : ℤ) (m : ℕ) → within z m ≡ true → pos (wrapped z m) ≡ z
-unfolding within wrapped
-wrapped-within (pos n) m e = ap pos (mod-eq-of-lt (ltb-true n m e))
-wrapped-within (negsuc n) m e = cc
 
 module _ (r bias m : ℕ) where
   pub within-subℕ-below : r < bias → within (subℕ r bias) m ≡ false

@@ -1,19 +1,14 @@
 -- Halfwords and words read as signed numbers, and back. No contract cites this file. Assumes nothing.
 -- Low is below the sign bit's value, high is from there on.
 use mathlib.Core.Path.{_≡_, sym, ap, _∙_}
-use mathlib.Core.Bool.{true, _||_, or-false}
-use Prim.Native.Nat.{ℕ, suc, _+_, _-_, _%_, _^_, _≤_, _<_}
+use Prim.Native.Nat.{ℕ, _+_, _-_, _%_, _^_, _≤_, _<_}
 use native.Mathlib.Nat.{mod-eq-of-lt}
 use native.Mathlib.Omega.{arith}
-use lib.Dec.{leb, ltb}
-use lib.IntN.{ℤ, pos, negsuc, subℕ}
-use lib.Signed.{mag}
-use borrow.Author.Tests.{lt-ltb, le-ltb, leb-true, lt-leb}
-use Rattle.signed.specs.Signed.{signed16, signed32, wrapped, word32, inRange}
+use lib.Dec.{ltb}
+use lib.IntN.{ℤ, pos, subℕ}
+use borrow.Author.Tests.{lt-ltb, le-ltb}
+use Rattle.signed.specs.Signed.{signed16, signed32, wrapped, word32}
 use Rattle.signed.proofs.Difference.{View, up, down, view, subℕ-view, subℕ-cross}
-use Rattle.bits.proofs.Booleans.{leb-same}
-use Rattle.signed.proofs.Range.{inRange-mag}
-use Rattle.signed.proofs.Remainder.{wrapped-bound}
 
 pub signed16-low : (h : ℕ) → h < 2 ^ 15 → signed16 h ≡ pos h
 unfolding signed16
@@ -48,17 +43,6 @@ module _ (w r bias : ℕ) where
   pub signed32-subℕ-high : 2 ^ 31 ≤ w → r + 2 ^ 32 ≡ w + bias → signed32 w ≡ subℕ r bias
   signed32-subℕ-high p e = signed32-high w p ∙ subℕ-cross w (2 ^ 32) r bias (omega arith)
 
-pub word32-bound : (z : ℤ) → word32 z < 2 ^ 32
-unfolding word32
-word32-bound z = wrapped-bound (2 ^ 32) (omega arith) z
-
-pub signed32-word32 : (z : ℤ) → mag z < 2 ^ 31 → signed32 (word32 z) ≡ z
-unfolding word32 wrapped
-signed32-word32 (pos n) h = signed32-low (n % 2 ^ 32) (omega arith) ∙ ap pos (mod-eq-of-lt (omega arith))
-signed32-word32 (negsuc n) h =
-    let w = 2 ^ 32 - 1 - n % 2 ^ 32 in
-    signed32-high w (omega arith) ∙ subℕ-view w (2 ^ 32) (down n (omega arith))
-
 pub word32-signed32 : (w : ℕ) → w < 2 ^ 32 → word32 (signed32 w) ≡ w
 unfolding word32 wrapped
 word32-signed32 w w< = go (view w (2 ^ 31))
@@ -71,24 +55,3 @@ word32-signed32 w w< = go (view w (2 ^ 31))
 -- A word is the word of the number that it reads as.
 pub word32-is : (w : ℕ) (z : ℤ) → w < 2 ^ 32 → signed32 w ≡ z → w ≡ word32 z
 word32-is w z w< e = sym (word32-signed32 w w<) ∙ ap word32 e
-
--- A word in range is below 2^28 or at most 2^28 below 2^32.
-pub inRange-signed32 : (w : ℕ) → w < 2 ^ 32 → inRange (signed32 w) ≡ (ltb w (2 ^ 28) || leb (2 ^ 32 - 2 ^ 28) w)
-inRange-signed32 w w< = go (view w (2 ^ 31))
-  where
-    below : ℕ
-    below = 2 ^ 32 - 1 - w
-
-    negative : (k : ℕ) → w ≡ 2 ^ 31 + k → signed32 w ≡ negsuc below
-    negative k p = signed32-high w (omega arith) ∙ subℕ-view w (2 ^ 32) (down below (omega arith))
-
-    go : {z : ℤ} → View w (2 ^ 31) z → inRange (signed32 w) ≡ (ltb w (2 ^ 28) || leb (2 ^ 32 - 2 ^ 28) w)
-    go (up k p) =
-        rw (negative k p, inRange-mag, le-ltb w (2 ^ 28) (omega arith))
-        (leb-same (suc below) (2 ^ 28) (2 ^ 32 - 2 ^ 28) w (λ h. omega arith) (λ h. omega arith))
-    go (down k p) =
-        rw (signed32-low w (omega arith), inRange-mag, lt-leb (2 ^ 32 - 2 ^ 28) w (omega arith)) (sym (or-false _))
-
-pub inRange-signed32-high : (w : ℕ) → w < 2 ^ 32 → inRange (signed32 w) ≡ true → 2 ^ 28 ≤ w → 2 ^ 32 - 2 ^ 28 ≤ w
-inRange-signed32-high w w< e p =
-    leb-true (2 ^ 32 - 2 ^ 28) w (rw (inRange-signed32 w w<, le-ltb w (2 ^ 28) p) at e)
