@@ -1,6 +1,6 @@
 # `make run` draws the sample captures to PNG; `make test` is the gate. Each sets up what it needs.
 # Also: `make coverage` writes docs/COVERAGE.md anew; `make bench` measures the proved library beside the oracle and plots
-# docs/growth.png anew.
+# docs/growth.png anew; `make picture` draws docs/crates.svg anew.
 
 BUILT := host/target/release
 FRAMES := host/target/frames
@@ -9,7 +9,7 @@ SAMPLES := scene.ss0 scene.state.png scene-two-tone.state.png
 # What is run and tested is the archive built here, even where ASHLARKIN_LIB_DIR names another.
 unexport ASHLARKIN_LIB_DIR
 
-.PHONY: run test setup library host host-tests compare oracle-tests c-tests coverage bench
+.PHONY: run test setup library host host-tests compare oracle-tests c-tests coverage bench picture
 
 run: host
 	@mkdir -p $(FRAMES)
@@ -25,6 +25,8 @@ test: setup host-tests compare oracle-tests c-tests
 	@rt fmt --check
 	@tools/contracts
 	@tools/definitions
+	@tools/uncited
+	@tools/crates --check
 	@tools/test-edits
 	@tools/ci
 
@@ -79,3 +81,7 @@ bench: host
 	@tools/setup bench
 	@$(BUILT)/ashlarkin bench --seconds 60 --save host/target/bench.json
 	@tools/plot host/target/bench.json docs/growth.png
+
+picture:
+	@tools/setup picture
+	@tools/crates
