@@ -27,6 +27,7 @@ test: setup host-tests compare oracle-tests c-tests
 	@tools/definitions
 	@tools/uncited
 	@tools/crates --check
+	@tools/test-tools
 	@tools/test-edits
 	@tools/ci
 
