@@ -6,7 +6,7 @@
 use std::process::ExitCode;
 use std::time::Instant;
 
-use ashlarkin_oracle::cases::{Alone, Case, Cases, Kept, Kind, reset_row, step};
+use ashlarkin_oracle::cases::{Alone, Case, Cases, Kind, Loaded, reset_row, step};
 use ashlarkin_oracle::{Answer, OUTPUT_LEN, Oracle};
 
 mod model;
@@ -35,7 +35,7 @@ fn run(case: &Case, mut draw: impl FnMut(usize, &mut [u8], &mut [u8]) -> Answer)
         .collect()
 }
 
-fn by_oracle(oracle: &mut Kept, case: &Case) -> Vec<Given> {
+fn by_oracle(oracle: &mut Loaded, case: &Case) -> Vec<Given> {
     run(case, |at, entries, output| oracle.draw(&case.draws[at], entries, output))
 }
 
@@ -59,7 +59,7 @@ fn difference(oracle: &[Given], model: &[Given]) -> Option<String> {
 
 /// Compares the cases of a seed; prints counts and speed. Whether there was no difference.
 fn compare(seed: u64, count: u64) -> bool {
-    let (mut cases, mut oracle) = (Cases::new(seed), Kept::default());
+    let (mut cases, mut oracle) = (Cases::new(seed), Loaded::default());
     let (mut draws, mut numbers, mut kinds) = (0u64, [0u64; 8], [0u64; 4]);
     let start = Instant::now();
     for index in 0..count {
@@ -91,7 +91,7 @@ fn compare(seed: u64, count: u64) -> bool {
 
 /// Compares draws of each kind of background alone.
 fn compare_alone(seed: u64, count: u64) -> bool {
-    let (mut cases, mut oracle) = (Cases::new(seed), Kept::default());
+    let (mut cases, mut oracle) = (Cases::new(seed), Loaded::default());
     for kind in Alone::ALL {
         for index in 0..count {
             let (draw, _) = cases.alone(index, kind);
@@ -137,7 +137,7 @@ fn compare_small(seed: u64, count: u64) -> bool {
 
 /// How many draws a second the oracle's side of a differential run makes, generation included.
 fn speed(seed: u64, count: u64) {
-    let (mut cases, mut oracle) = (Cases::new(seed), Kept::default());
+    let (mut cases, mut oracle) = (Cases::new(seed), Loaded::default());
     let (start, mut draws) = (Instant::now(), 0u64);
     for index in 0..count {
         draws += by_oracle(&mut oracle, &cases.case(index)).len() as u64;
@@ -150,7 +150,7 @@ fn speed(seed: u64, count: u64) {
 
 /// Whether every mutant is told from the oracle.
 fn mutants() -> bool {
-    let (mut cases, mut oracle, mut stepper) = (Cases::new(MUTANT_SEED), Kept::default(), Oracle::new());
+    let (mut cases, mut oracle, mut stepper) = (Cases::new(MUTANT_SEED), Loaded::default(), Oracle::new());
     let mut left: Vec<Mutant> = Mutant::ALL.to_vec();
     let mut latest = (0, None);
     for index in 0..MUTANT_CASES {

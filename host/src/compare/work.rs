@@ -2,7 +2,7 @@
 
 use ashlarkin::{BgAffine, ENTRIES_LEN, Input, OUTPUT_LEN, ObjBufferEntry};
 use ashlarkin_oracle::Answer;
-use ashlarkin_oracle::cases::{self, Case, Cases, Draw, Kept};
+use ashlarkin_oracle::cases::{self, Case, Cases, Draw, Loaded};
 
 use super::records::{self, RecordCase};
 
@@ -52,7 +52,7 @@ pub struct Library;
 /// The emulator's Rust.
 #[derive(Default)]
 pub struct Oracle {
-    draws: Kept,
+    draws: Loaded,
     others: ashlarkin_oracle::Oracle,
 }
 

@@ -1,7 +1,7 @@
 //! Generated draws for differential runs. A case is a pure function of (seed, index), so that a number names it.
 
 mod faults;
-mod kept;
+mod loaded;
 mod random;
 mod registers;
 mod scene;
@@ -10,7 +10,7 @@ mod sprites;
 use std::sync::Arc;
 
 use crate::input::*;
-pub use kept::Kept;
+pub use loaded::Loaded;
 use random::Random;
 use scene::Scene;
 
