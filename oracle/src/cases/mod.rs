@@ -155,7 +155,7 @@ impl Cases {
         let random = &mut Random::new(self.seed ^ 0xa10e, index);
         let mut draw = self.accepted(random, 0);
         let (mode, bg) = random.pick(kind.places());
-        let dispcnt = mode | 0x10 * random.below(2) as u16 | 0x100 << bg;
+        let dispcnt = mode | (0x10 * random.below(2) as u16) | (0x100 << bg);
         draw.registers[0..2].copy_from_slice(&dispcnt.to_le_bytes());
         draw.registers[0x50..0x52].fill(0);
         (draw, bg)
