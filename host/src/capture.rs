@@ -237,6 +237,7 @@ fn inflate(packed: &[u8]) -> Result<Vec<u8>> {
 mod tests {
     use std::io::Write;
 
+    use ashlarkin_oracle::cases::Random;
     use flate2::Compression;
     use flate2::write::ZlibEncoder;
 
@@ -301,13 +302,9 @@ mod tests {
 
     #[test]
     fn noise_is_answered() {
-        let mut seed = 1u64;
-        let mut next = || {
-            seed = seed.wrapping_mul(6364136223846793005).wrapping_add(1442695040888963407);
-            (seed >> 33) as u8
-        };
+        let mut random = Random::new(1, 0);
         for len in 0..2000 {
-            let noise: Vec<u8> = (0..len).map(|_| next()).collect();
+            let noise = random.bytes(len);
             assert!(Capture::of_state(&noise).is_err());
             // Past the signature, past a chunk's CRC, and into the decompressor.
             assert!(Capture::of_state(&png_of(std::slice::from_ref(&noise))).is_err());

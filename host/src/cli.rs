@@ -1,9 +1,9 @@
 //! The command line.
 
 use std::path::PathBuf;
-use std::time::SystemTime;
 
 use anyhow::Result;
+use ashlarkin_oracle::cases::fresh_seed;
 use clap::{Args, Parser, Subcommand, value_parser};
 
 use crate::compare::{self, Flip, Plan, Readings};
@@ -250,10 +250,4 @@ impl BenchArgs {
         let BenchArgs { seconds, only, json, save } = self;
         bench::run(&bench::Options { seconds: seconds.into(), only, json, save })
     }
-}
-
-/// Another seed for each run, short enough to be typed.
-fn fresh_seed() -> u64 {
-    let now = SystemTime::now().duration_since(SystemTime::UNIX_EPOCH);
-    now.map_or(0, |now| now.as_micros() as u64 % 1_000_000_000)
 }

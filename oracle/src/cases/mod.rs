@@ -11,7 +11,7 @@ use std::sync::Arc;
 
 use crate::input::*;
 pub use loaded::Loaded;
-use random::Random;
+pub use random::{Random, fresh_seed};
 use scene::Scene;
 
 /// What a case is for; its index decides.
