@@ -179,14 +179,40 @@ fn mutants() -> bool {
     left.is_empty()
 }
 
-fn option(name: &str, default: u64) -> u64 {
-    let words: Vec<String> = std::env::args().collect();
-    let at = words.iter().position(|word| word == name);
-    at.and_then(|at| words.get(at + 1)?.parse().ok()).unwrap_or(default)
+/// The seed and the count of cases, or the words that say neither.
+fn options(words: &[String]) -> Result<(u64, u64), String> {
+    let (mut seed, mut count) = (1, 100_000);
+    for option in words.chunks(2) {
+        let refused = || option.join(" ");
+        let [name, value] = option else { return Err(refused()) };
+        match (name.as_str(), value.parse().map_err(|_| refused())?) {
+            ("--seed", value) => seed = value,
+            ("--cases", value @ 1..) => count = value,
+            _ => return Err(refused()),
+        }
+    }
+    Ok((seed, count))
+}
+
+fn check_options() {
+    let of = |text: &str| options(&text.split_whitespace().map(str::to_owned).collect::<Vec<_>>());
+    assert_eq!((of(""), of("--cases 7 --seed 0")), (Ok((1, 100_000)), Ok((0, 7))));
+    for text in ["7", "--case 7", "--cases", "--cases x", "--cases 0", "--cases=7", "--seed -1", "--seed 1 more"] {
+        assert!(of(text).is_err(), "{text}");
+    }
 }
 
 fn main() -> ExitCode {
-    let (seed, count) = (option("--seed", 1), option("--cases", 100_000));
+    check_options();
+    let (seed, count) = match options(&std::env::args().skip(1).collect::<Vec<_>>()) {
+        Ok(found) => found,
+        Err(refused) => {
+            eprintln!(
+                "second_opinion: not understood: {refused}\nusage: second_opinion [--cases N] [--seed S], N from 1"
+            );
+            return ExitCode::from(2);
+        }
+    };
     let same = compare(seed, count) && compare_alone(seed, count / 5) && compare_small(seed, count);
     speed(seed, count.min(20_000));
     if same && mutants() { ExitCode::SUCCESS } else { ExitCode::FAILURE }
