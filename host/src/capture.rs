@@ -243,8 +243,8 @@ mod tests {
 
     use super::*;
 
-    const RAW: &[u8] = include_bytes!("../../samples/scene.ss0");
-    const PNG: &[u8] = include_bytes!("../../samples/scene.state.png");
+    const RAW: &[u8] = include_bytes!("../../samples/scene/capture.ss0");
+    const PNG: &[u8] = include_bytes!("../../samples/scene/capture.state.png");
 
     fn number(bytes: &[u8]) -> Option<u32> {
         Capture::of_state(bytes).unwrap_err().downcast_ref::<Refused>().map(|refused| refused.refusal.number())

@@ -13,8 +13,8 @@ use crate::{batch, bench};
 
 const EXAMPLES: &str = "\
 Examples:
-  ashlarkin frame samples/scene.ss0 -o frame.png
-  ashlarkin frame samples/scene.state.png -o frame.png --reading H --scale 4
+  ashlarkin frame samples/scene/capture.ss0 -o frame.png
+  ashlarkin frame samples/scene/capture.state.png -o frame.png --reading H --scale 4
   ashlarkin batch caps -o frames
   ashlarkin compare --cases 100000
   ashlarkin bench

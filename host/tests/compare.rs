@@ -132,7 +132,7 @@ fn a_kept_file_may_be_damaged() {
         check_refused(&run, Path::new("damaged.txt"), words);
     };
     replay(b"", &["starts with ''", "expected 'ashlarkin difference 1'"]);
-    replay(&fs::read(sample("scene.ss0")).unwrap(), &["can't be read", "expected a difference"]);
+    replay(&fs::read(sample("scene/capture.ss0")).unwrap(), &["can't be read", "expected a difference"]);
     replay(&whole.as_bytes()[..whole.len() / 2], &["expected"]);
     replay(whole.replacen("draws 1", "draws 2", 1).as_bytes(), &["ends after line"]);
     replay(whole.replacen("vram ", "vram g", 1).as_bytes(), &["vram isn't hex"]);
