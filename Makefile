@@ -45,9 +45,9 @@ host-tests: library
 # The same cases each time, and others each time; the seed is printed, and a difference is kept.
 compare: host
 	@echo '== the proved library and the oracle'
-	@$(BUILT)/ashlarkin compare --cases 150000 --seed 1 --keep host/target/difference.txt
+	@$(BUILT)/ashlarkin compare --cases 150000 --seed 1 --keep host/target/difference.json
 	@echo '== the proved library and the oracle: fresh seed'
-	@$(BUILT)/ashlarkin compare --cases 50000 --keep host/target/difference.txt
+	@$(BUILT)/ashlarkin compare --cases 50000 --keep host/target/difference.json
 
 # The same cases in a release build, in a build that checks sums and assertions, and some with a fresh seed.
 oracle-tests: setup

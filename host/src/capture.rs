@@ -94,7 +94,7 @@ pub fn named_as_state(path: &Path) -> bool {
 }
 
 /// A whole file, or one byte more than any capture has.
-fn read_file(path: &Path) -> io::Result<Vec<u8>> {
+pub fn read_file(path: &Path) -> io::Result<Vec<u8>> {
     let mut bytes = Vec::new();
     File::open(path)?.take(FILE_MAX as u64 + 1).read_to_end(&mut bytes)?;
     Ok(bytes)

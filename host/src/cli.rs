@@ -41,7 +41,7 @@ const COMPARE_EXAMPLES: &str = "\
 Examples:
   ashlarkin compare                               10000 cases with a fresh seed
   ashlarkin compare --cases 1000000 --seed 7      the same cases each time
-  ashlarkin compare --replay difference.txt       a kept difference again
+  ashlarkin compare --replay difference.json      a kept difference again
 
 Exit status: 0 no difference, 1 a difference (kept in a file), 2 bad usage.";
 
@@ -173,13 +173,13 @@ struct CompareArgs {
 
     /// The file to keep the first difference in
     ///
-    /// It holds all of the draws' memory. A file of that name is replaced. Example: --keep difference.txt
-    #[arg(long, value_name = "FILE", default_value = "ashlarkin-difference.txt")]
+    /// It is JSON and holds all of the draws' memory. A file of that name is replaced. Example: --keep difference.json
+    #[arg(long, value_name = "FILE", default_value = "ashlarkin-difference.json")]
     keep: PathBuf,
 
     /// Compare a kept difference again, and show where the two part
     ///
-    /// Example: --replay difference.txt
+    /// Example: --replay difference.json
     #[arg(long, value_name = "FILE", conflicts_with_all = ["cases", "seed", "reading", "keep"])]
     replay: Option<PathBuf>,
 

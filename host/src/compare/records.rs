@@ -3,12 +3,14 @@
 
 use ashlarkin::{BgAffine, ObjBufferEntry, REFERENCES_LEN, WIDTH};
 use ashlarkin_oracle::cases::{Case, Cases, Kind, Random};
+use serde::{Deserialize, Serialize};
 
 /// Streams of records stand apart from those of the bytes that they are made of.
 const APART: u64 = 0x4ec0_4d50;
 
 /// Draws over a row of records; the case's own entries are empty.
-#[derive(Clone)]
+#[derive(Clone, Deserialize, Serialize)]
+#[serde(deny_unknown_fields)]
 pub struct RecordCase {
     pub case: Case,
     pub row: Vec<ObjBufferEntry>,
