@@ -1,9 +1,10 @@
 //! `ashlarkin frame` on real captures, on damaged ones and with bad usage.
 
 use std::fs;
-use std::os::unix::fs::symlink;
+use std::os::unix::fs::{PermissionsExt, symlink};
 use std::os::unix::net::UnixListener;
 use std::path::Path;
+use std::process::Command;
 
 use crate::common::*;
 
@@ -305,6 +306,24 @@ fn an_old_frame_stays_unless_a_new_one_is_drawn() {
     assert_eq!(fs::read(&twin).unwrap(), b"old");
     assert_eq!(fs::read_link(&link).unwrap(), output);
     assert_eq!(names(&folder), before);
+}
+
+/// As a file that the shell makes, whether there was one before or not.
+#[test]
+fn a_frame_has_the_rights_of_a_new_file() {
+    let folder = scratch("frame/rights");
+    let [output, other] = ["frame.png", "other"].map(|name| folder.join(name));
+    let capture = sample("scene/capture.ss0");
+    for umask in ["022", "077", "002"] {
+        let line = format!("umask {umask}; : > \"$1\"; exec \"$0\" frame \"$2\" -o \"$3\"");
+        let mut shell = Command::new("sh");
+        shell.args(["-c", &line, env!("CARGO_BIN_EXE_ashlarkin")]).args([&other, &capture, &output]);
+        assert!(shell.status().unwrap().success());
+        let rights = |path: &Path| fs::metadata(path).unwrap().permissions().mode();
+        assert_eq!(rights(&output), rights(&other), "umask {umask}");
+        fs::remove_file(&other).unwrap();
+    }
+    assert_eq!(names(&folder), [output]);
 }
 
 #[test]
