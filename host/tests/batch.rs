@@ -151,6 +151,7 @@ fn json_says_the_same() {
     assert_eq!(run.status.code(), Some(1));
     let objects: Vec<Value> = stdout(&run).lines().map(|line| serde_json::from_str(line).unwrap()).collect();
     assert_eq!(objects.len(), 12);
+    assert!(objects[..11].iter().map(|object| Path::new(object["capture"].as_str().unwrap())).is_sorted());
     let summary = &objects[11]["summary"];
     assert_eq!((&summary["captures"], &summary["drawn"], &summary["failed"]), (&11.into(), &1.into(), &10.into()));
     let of = |path: &Path| objects.iter().find(|object| object["capture"] == path.to_str().unwrap()).unwrap();
@@ -196,11 +197,13 @@ fn other_files_are_passed_over() {
     // A name that says it is a state is taken at its word.
     fs::rename(folder.join("screenshot.png"), folder.join("screenshot.state.png")).unwrap();
     fs::rename(folder.join("broken"), folder.join("broken.ss1")).unwrap();
+    fs::rename(folder.join("pipe"), folder.join("pipe.ss2")).unwrap();
     let run = batch(&folder, &out, &[]);
     let lines: Vec<&str> = stderr(&run).lines().collect();
-    assert_eq!((run.status.code(), lines.len()), (Some(1), 2));
+    assert_eq!((run.status.code(), lines.len()), (Some(1), 3));
     assert!(lines[0].contains("broken.ss1: can't be read: No such file"), "{lines:?}");
     assert!(lines[1].contains("screenshot.state.png: PNG with no gbAs chunk"), "{lines:?}");
+    assert!(lines[2].contains("pipe.ss2: can't be read: not a file"), "{lines:?}");
 }
 
 #[test]
@@ -252,9 +255,11 @@ fn links_are_followed_and_loops_end() {
     fs::create_dir_all(folder.join("below")).unwrap();
     symlink(scratch.join("elsewhere"), folder.join("linked")).unwrap();
     symlink(sample("scene/capture.ss0"), folder.join("state")).unwrap();
+    // Back up, and around by the folder above the first, which has another capture.
     symlink(&folder, folder.join("below/loop")).unwrap();
-    all_drawn(&folder, &out, 2, &[]);
-    assert_eq!(places(&out), ["linked/scene.png", "state.png"]);
+    symlink(&scratch, folder.join("below/around")).unwrap();
+    all_drawn(&folder, &out, 3, &[]);
+    assert_eq!(places(&out), ["below/around/elsewhere/scene.png", "linked/scene.png", "state.png"]);
 }
 
 #[test]
@@ -312,9 +317,10 @@ fn what_may_not_be_read_is_reported_and_the_rest_drawn() {
     for name in ["closed", "open"] {
         write_scene(&folder.join(name));
     }
-    for name in ["shut", "listed"] {
-        fs::create_dir(folder.join(name)).unwrap();
+    for name in ["shut", "listed", "links/before/below"] {
+        fs::create_dir_all(folder.join(name)).unwrap();
     }
+    symlink("../shut", folder.join("links/link")).unwrap();
     for name in ["state", "listed/state"] {
         fs::copy(sample("scene/capture.ss0"), folder.join(name)).unwrap();
     }
@@ -325,11 +331,13 @@ fn what_may_not_be_read_is_reported_and_the_rest_drawn() {
     forbid(&folder.join("listed"), 0o444);
     let run = unprivileged.run(&["batch", "caps", "-o", "frames"]);
     assert_eq!(run.status.code(), Some(1));
-    for name in ["closed/oam.bin", "listed/state", "shut", "state"] {
-        let start = format!("caps/{name}: can't be read: Permission denied");
+    for (name, where_in) in
+        [("closed/oam.bin", ""), ("links", "a link in it: "), ("listed/state", ""), ("shut", ""), ("state", "")]
+    {
+        let start = format!("caps/{name}: can't be read: {where_in}Permission denied");
         assert!(stderr(&run).lines().any(|line| line.starts_with(&start)), "{start} in {}", stderr(&run));
     }
-    assert!(stdout(&run).starts_with("5 captures: 1 drawn, 4 failed"), "{}", stdout(&run));
+    assert!(stdout(&run).starts_with("6 captures: 1 drawn, 5 failed"), "{}", stdout(&run));
     assert_eq!(places(&unprivileged.folder.join("frames")), ["open.png"]);
 }
 
