@@ -122,8 +122,8 @@ struct BatchArgs {
     /// The folder to look for captures in, at any depth
     ///
     /// A folder with one of the four files is a capture, and so is a file that is a save state by its content, or named
-    /// as one (*.ss0, *.state.png). Other files are passed over, and so is what lies in the folder of frames. Example:
-    /// caps
+    /// as one (*.ss0, *.state.png). A PNG that is cut short or damaged may have been one, and is reported. Other files
+    /// are passed over, and so is what lies in the folder of frames. Example: caps
     #[arg(value_name = "FOLDER")]
     folder: PathBuf,
 

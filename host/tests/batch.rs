@@ -206,6 +206,43 @@ fn other_files_are_passed_over() {
     assert!(lines[2].contains("pipe.ss2: can't be read: not a file"), "{lines:?}");
 }
 
+/// Where nothing in it, or in its name, is left to say so.
+#[test]
+fn what_may_have_been_a_capture_is_reported() {
+    let scratch = scratch("batch/may_have_been");
+    let [folder, out] = ["caps", "frames"].map(|name| scratch.join(name));
+    fs::create_dir_all(folder.join("part")).unwrap();
+    let [raw, state, picture] =
+        ["capture.ss0", "capture.state.png", "mgba.png"].map(|name| fs::read(sample("scene").join(name)).unwrap());
+    let kind = state.windows(4).position(|bytes| bytes == b"gbAs").unwrap();
+    let renamed = [&state[..kind], b"GbAs", &state[kind + 4..]].concat();
+    let damaged = [
+        ("cut 0.png", &[][..], "0 bytes, expected 397312"),
+        ("cut 1.PNG", &state[..1], "1 bytes, expected 397312"),
+        ("cut 8", &state[..8], "PNG damaged at byte 8, expected whole chunks: ends inside a chunk"),
+        ("cut 9000.png", &state[..9000], "PNG damaged at byte 8237, expected whole chunks: ends inside a chunk"),
+        ("cut chunk.png", &state[..kind], "PNG damaged at byte 14798, expected whole chunks: ends inside a chunk"),
+        ("cut picture.png", &picture[..picture.len() - 1], "ends inside a chunk"),
+        ("part/registers.bin", b"", ""),
+        ("raw 4", &raw[..4], "4 bytes, expected 397312"),
+        ("renamed.png", &renamed, "CRC"),
+    ];
+    for (name, bytes, _) in damaged {
+        fs::write(folder.join(name), bytes).unwrap();
+    }
+    // A picture that is whole, and a file longer than any capture.
+    fs::write(folder.join("whole.png"), &picture).unwrap();
+    fs::write(folder.join("long.png"), [&state[..9000], &vec![0; 0x100_0000]].concat()).unwrap();
+    let run = batch(&folder, &out, &[]);
+    let lines: Vec<&str> = stderr(&run).lines().collect();
+    assert_eq!((run.status.code(), lines.len()), (Some(1), damaged.len()), "{lines:?}");
+    for (line, (name, _, words)) in lines.iter().zip(damaged) {
+        let named = folder.join(name.replace("registers", "vram"));
+        assert!(line.starts_with(&format!("{}: ", named.display())) && line.contains(words), "{line}");
+    }
+    assert!(stdout(&run).starts_with("9 captures: 0 drawn, 9 failed; "), "{}", stdout(&run));
+}
+
 #[test]
 fn frames_mirror_the_tree() {
     let scratch = scratch("batch/mirror");
