@@ -114,10 +114,14 @@ fn a_difference_is_found_kept_and_replayed() {
         assert_eq!((same.status.code(), stderr(&same)), (Some(0), ""));
         assert!(stdout(&same).ends_with(&format!("case {case}: no difference\n")), "{}", stdout(&same));
     }
-    // The last case of all, and one past it.
+}
+
+#[test]
+fn the_last_case_is_compared_and_none_past_it() {
+    let folder = scratch("compare/last");
     let last = compare(&folder, &["--cases", "130", "--seed", "1", "--flip-for-test", "pixel@129"]);
     assert_eq!(last.status.code(), Some(1));
-    assert_eq!(names(&folder), ["ashlarkin-difference.json", "kept.json"].map(|name| folder.join(name)));
+    assert_eq!(names(&folder), [folder.join("ashlarkin-difference.json")]);
     counts(&compare(&folder, &["--cases", "129", "--seed", "1", "--flip-for-test", "pixel@129"]));
 }
 
