@@ -4,7 +4,6 @@
 
 BUILT := host/target/release
 FRAMES := host/target/frames
-SAMPLES := scene.ss0 scene.state.png scene-two-tone.state.png
 
 # What is run and tested is the archive built here, even where ASHLARKIN_LIB_DIR names another.
 unexport ASHLARKIN_LIB_DIR
@@ -12,12 +11,10 @@ unexport ASHLARKIN_LIB_DIR
 .PHONY: run test setup library host host-tests compare oracle-tests c-tests coverage bench picture
 
 run: host
-	@mkdir -p $(FRAMES)
-	@for sample in $(SAMPLES); do \
-		name=$${sample%.state.png}; \
-		$(BUILT)/ashlarkin frame samples/$$sample --reading H --scale 2 -o $(FRAMES)/$$name.png || exit 1; \
-		echo "drawn by the proved library, reading H: $(FRAMES)/$$name.png"; \
-	done
+	@rm -rf $(FRAMES)
+	@$(BUILT)/ashlarkin batch samples -o $(FRAMES) --reading H --scale 2
+	@echo 'drawn by the proved library, reading H:'
+	@find $(FRAMES) -name '*.png' | sort
 
 # `rt ci` stands last: its last line is the verdict, and is printed only if nothing before it failed and each must-fail
 # edit was refused at a fact.
@@ -51,9 +48,9 @@ host-tests: library
 # The same cases each time, and others each time; the seed is printed, and a difference is kept.
 compare: host
 	@echo '== the proved library and the oracle'
-	@$(BUILT)/ashlarkin compare --cases 150000 --seed 1 --keep host/target/difference.txt
+	@$(BUILT)/ashlarkin compare --cases 150000 --seed 1 --keep host/target/difference.json
 	@echo '== the proved library and the oracle: fresh seed'
-	@$(BUILT)/ashlarkin compare --cases 50000 --keep host/target/difference.txt
+	@$(BUILT)/ashlarkin compare --cases 50000 --keep host/target/difference.json
 
 # The same cases in a release build, in a build that checks sums and assertions, and some with a fresh seed.
 oracle-tests: setup

@@ -59,7 +59,11 @@ impl Capture {
 
     /// Takes a save state of either form.
     pub fn of_state(bytes: &[u8]) -> Result<Capture> {
-        if bytes.starts_with(PNG_SIGNATURE) { split(&inflate(find_state(bytes)?)?) } else { split(bytes) }
+        const NO_STATE: &str = "PNG with no gbAs chunk, expected a save state in one; give a state, not a screenshot";
+        if !bytes.starts_with(PNG_SIGNATURE) {
+            return split(bytes);
+        }
+        split(&inflate(find_state(bytes)?.context(NO_STATE)?)?)
     }
 }
 
@@ -70,19 +74,20 @@ pub fn files(capture: &Path) -> Vec<PathBuf> {
     all.filter_map(|file| fs::canonicalize(file).ok()).collect()
 }
 
-/// Whether a file's content is a save state's, whole or damaged.
+/// Whether a file's content is a save state's, or may have been: a PNG that isn't whole may have lost its state.
 pub fn is_state(path: &Path) -> io::Result<bool> {
-    let mut head = [0; PNG_SIGNATURE.len()];
-    if let Err(error) = File::open(path)?.read_exact(&mut head) {
-        return if error.kind() == io::ErrorKind::UnexpectedEof { Ok(false) } else { Err(error) };
+    let mut head = vec![];
+    File::open(path)?.take(PNG_SIGNATURE.len() as u64).read_to_end(&mut head)?;
+    if head == PNG_SIGNATURE {
+        let png = read_file(path)?;
+        // No state is as long as what isn't read to its end.
+        return Ok(png.len() <= FILE_MAX && !matches!(find_state(&png), Ok(None)));
     }
-    if head == *PNG_SIGNATURE {
-        // Sought in all bytes, since a damaged chunk hides those after it.
-        return Ok(read_file(path)?.windows(4).any(|bytes| bytes == STATE_CHUNK));
-    }
+    let named_png = path.extension().is_some_and(|extension| extension.eq_ignore_ascii_case("png"));
+    let cut_png = named_png && PNG_SIGNATURE.starts_with(&head);
     // Version 0 is none of mGBA's, and video streams start so.
-    let (version, kind) = (head[0], &head[1..4]);
-    Ok(version != 0 && *kind == STATE_MAGIC.to_le_bytes()[1..])
+    let is_raw = head.first() != Some(&0) && head.get(1..4) == STATE_MAGIC.to_le_bytes().get(1..);
+    Ok(cut_png || is_raw)
 }
 
 /// Whether a file's name is one that mGBA, or people after it, give to save states: `*.ss0`, `*.state.png`.
@@ -94,7 +99,7 @@ pub fn named_as_state(path: &Path) -> bool {
 }
 
 /// A whole file, or one byte more than any capture has.
-fn read_file(path: &Path) -> io::Result<Vec<u8>> {
+pub fn read_file(path: &Path) -> io::Result<Vec<u8>> {
     let mut bytes = Vec::new();
     File::open(path)?.take(FILE_MAX as u64 + 1).read_to_end(&mut bytes)?;
     Ok(bytes)
@@ -174,8 +179,8 @@ fn check_magic(magic: u32) -> Result<()> {
     Ok(())
 }
 
-/// The compressed state in a PNG. Every chunk is checked, since a damaged file is no evidence.
-fn find_state(png: &[u8]) -> Result<&[u8]> {
+/// The compressed state in a PNG, if it has one. Every chunk is checked, since a damaged file is no evidence.
+fn find_state(png: &[u8]) -> Result<Option<&[u8]>> {
     let mut rest = &png[PNG_SIGNATURE.len()..];
     let mut state = None;
     loop {
@@ -186,11 +191,10 @@ fn find_state(png: &[u8]) -> Result<&[u8]> {
                 bail!("PNG with two gbAs chunks, expected one; save the state again with mGBA")
             }
             STATE_CHUNK => state = Some(chunk.data),
-            b"IEND" => break,
+            b"IEND" => return Ok(state),
             _ => {}
         }
     }
-    state.context("PNG with no gbAs chunk, expected a save state in one; give a state, not a screenshot")
 }
 
 struct Chunk<'a> {
@@ -237,13 +241,16 @@ fn inflate(packed: &[u8]) -> Result<Vec<u8>> {
 mod tests {
     use std::io::Write;
 
+    use ashlarkin_oracle::cases::Random;
     use flate2::Compression;
     use flate2::write::ZlibEncoder;
+    use png::{Decoded, StreamingDecoder};
 
     use super::*;
 
-    const RAW: &[u8] = include_bytes!("../../samples/scene.ss0");
-    const PNG: &[u8] = include_bytes!("../../samples/scene.state.png");
+    const RAW: &[u8] = include_bytes!("../../samples/scene/capture.ss0");
+    const PNG: &[u8] = include_bytes!("../../samples/scene/capture.state.png");
+    const SCREENSHOT: &[u8] = include_bytes!("../../samples/scene/mgba.png");
 
     fn number(bytes: &[u8]) -> Option<u32> {
         Capture::of_state(bytes).unwrap_err().downcast_ref::<Refused>().map(|refused| refused.refusal.number())
@@ -290,6 +297,34 @@ mod tests {
         }
     }
 
+    /// Whether the png crate reads a PNG to its last chunk.
+    fn read_whole(mut png: &[u8]) -> bool {
+        let (mut decoder, mut image) = (StreamingDecoder::new(), vec![]);
+        while !png.is_empty() {
+            match decoder.update(png, &mut image) {
+                Ok((_, Decoded::ImageEnd)) => return true,
+                Ok((read, _)) => png = &png[read..],
+                Err(_) => return false,
+            }
+        }
+        false
+    }
+
+    #[test]
+    fn a_png_is_whole_where_the_png_crate_reads_it_whole() {
+        for png in [PNG, SCREENSHOT] {
+            for len in (8..png.len()).step_by(97).chain(png.len() - 20..=png.len()) {
+                assert_eq!(find_state(&png[..len]).is_ok(), read_whole(&png[..len]), "{len} bytes");
+            }
+            for place in (8..png.len()).step_by(101) {
+                let mut bytes = png.to_vec();
+                bytes[place] ^= 1 << (place % 8);
+                assert!(find_state(&bytes).is_err() && !read_whole(&bytes), "byte {place}");
+            }
+        }
+        assert!(find_state(PNG).unwrap().is_some() && find_state(SCREENSHOT).unwrap().is_none());
+    }
+
     #[test]
     fn every_changed_bit_of_a_png_is_refused() {
         for place in (0..PNG.len()).step_by(61) {
@@ -301,13 +336,9 @@ mod tests {
 
     #[test]
     fn noise_is_answered() {
-        let mut seed = 1u64;
-        let mut next = || {
-            seed = seed.wrapping_mul(6364136223846793005).wrapping_add(1442695040888963407);
-            (seed >> 33) as u8
-        };
+        let mut random = Random::new(1, 0);
         for len in 0..2000 {
-            let noise: Vec<u8> = (0..len).map(|_| next()).collect();
+            let noise = random.bytes(len);
             assert!(Capture::of_state(&noise).is_err());
             // Past the signature, past a chunk's CRC, and into the decompressor.
             assert!(Capture::of_state(&png_of(std::slice::from_ref(&noise))).is_err());

@@ -1,9 +1,9 @@
 //! The command line.
 
 use std::path::PathBuf;
-use std::time::SystemTime;
 
 use anyhow::Result;
+use ashlarkin_oracle::cases::fresh_seed;
 use clap::{Args, Parser, Subcommand, value_parser};
 
 use crate::compare::{self, Flip, Plan, Readings};
@@ -13,8 +13,8 @@ use crate::{batch, bench};
 
 const EXAMPLES: &str = "\
 Examples:
-  ashlarkin frame samples/scene.ss0 -o frame.png
-  ashlarkin frame samples/scene.state.png -o frame.png --reading H --scale 4
+  ashlarkin frame samples/scene/capture.ss0 -o frame.png
+  ashlarkin frame samples/scene/capture.state.png -o frame.png --reading H --scale 4
   ashlarkin batch caps -o frames
   ashlarkin compare --cases 100000
   ashlarkin bench
@@ -41,7 +41,7 @@ const COMPARE_EXAMPLES: &str = "\
 Examples:
   ashlarkin compare                               10000 cases with a fresh seed
   ashlarkin compare --cases 1000000 --seed 7      the same cases each time
-  ashlarkin compare --replay difference.txt       a kept difference again
+  ashlarkin compare --replay difference.json      a kept difference again
 
 Exit status: 0 no difference, 1 a difference (kept in a file), 2 bad usage.";
 
@@ -122,8 +122,8 @@ struct BatchArgs {
     /// The folder to look for captures in, at any depth
     ///
     /// A folder with one of the four files is a capture, and so is a file that is a save state by its content, or named
-    /// as one (*.ss0, *.state.png). Other files are passed over, and so is what lies in the folder of frames. Example:
-    /// caps
+    /// as one (*.ss0, *.state.png). A PNG that is cut short or damaged may have been one, and is reported. Other files
+    /// are passed over, and so is what lies in the folder of frames. Example: caps
     #[arg(value_name = "FOLDER")]
     folder: PathBuf,
 
@@ -173,13 +173,13 @@ struct CompareArgs {
 
     /// The file to keep the first difference in
     ///
-    /// It holds all of the draws' memory. A file of that name is replaced. Example: --keep difference.txt
-    #[arg(long, value_name = "FILE", default_value = "ashlarkin-difference.txt")]
+    /// It is JSON and holds all of the draws' memory. A file of that name is replaced. Example: --keep difference.json
+    #[arg(long, value_name = "FILE", default_value = "ashlarkin-difference.json")]
     keep: PathBuf,
 
     /// Compare a kept difference again, and show where the two part
     ///
-    /// Example: --replay difference.txt
+    /// Example: --replay difference.json
     #[arg(long, value_name = "FILE", conflicts_with_all = ["cases", "seed", "reading", "keep"])]
     replay: Option<PathBuf>,
 
@@ -250,10 +250,4 @@ impl BenchArgs {
         let BenchArgs { seconds, only, json, save } = self;
         bench::run(&bench::Options { seconds: seconds.into(), only, json, save })
     }
-}
-
-/// Another seed for each run, short enough to be typed.
-fn fresh_seed() -> u64 {
-    let now = SystemTime::now().duration_since(SystemTime::UNIX_EPOCH);
-    now.map_or(0, |now| now.as_micros() as u64 % 1_000_000_000)
 }

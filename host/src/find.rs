@@ -6,6 +6,7 @@ use std::io;
 use std::path::{Component, Path, PathBuf};
 
 use anyhow::anyhow;
+use walkdir::{DirEntry, WalkDir};
 
 use crate::capture::{PARTS, is_state, named_as_state};
 
@@ -22,13 +23,28 @@ pub struct Tree {
     pub unreadable: Vec<(PathBuf, anyhow::Error)>,
 }
 
-/// Walks a folder in the order of names. What lies in the folder of frames, `out`, is no capture.
+/// Walks a folder in the order of names. A link is followed, unless it leads back to a folder that the walk is in. What
+/// lies in the folder of frames, `out`, is no capture.
 pub fn captures(folder: &Path, out: &Path) -> Tree {
-    let mut walk = Walk { out: fs::canonicalize(out).ok(), above: vec![], tree: Tree::default() };
     // Where the folder itself is a capture, its frame needs a name, and what lies below it goes below that name.
     let own_name = fs::canonicalize(folder).ok().and_then(|folder| folder.file_name().map(PathBuf::from));
     let place = if is_capture(folder) { own_name.unwrap_or_else(|| "capture".into()) } else { PathBuf::new() };
-    walk.folder(folder, &place);
+    let mut walk = Walk { folder, place, last: PathBuf::new(), tree: Tree::default() };
+    let out = fs::canonicalize(out).ok();
+    // The frames' folder, or one that the walk is in.
+    let passed_over = |path: &Path| {
+        let real = fs::canonicalize(path).ok();
+        let mut above = path.ancestors().skip(1).take_while(|above| above.starts_with(folder));
+        real.is_some() && (real == out || above.any(|above| fs::canonicalize(above).ok() == real))
+    };
+    let entries = WalkDir::new(folder).follow_links(true).sort_by_file_name().into_iter();
+    let wanted = |entry: &DirEntry| entry.depth() == 0 || !entry.file_type().is_dir() || !passed_over(entry.path());
+    for entry in entries.filter_entry(wanted) {
+        match entry {
+            Ok(entry) => walk.entry(&entry),
+            Err(error) => walk.error(&error),
+        }
+    }
     walk.tree
 }
 
@@ -37,71 +53,66 @@ fn is_capture(folder: &Path) -> bool {
     PARTS.iter().any(|part| folder.join(part).symlink_metadata().is_ok())
 }
 
-struct Walk {
-    out: Option<PathBuf>,
-    /// The folders that the walk is in, without links.
-    above: Vec<PathBuf>,
+struct Walk<'a> {
+    /// The first folder, and its place among the frames.
+    folder: &'a Path,
+    place: PathBuf,
+    /// The last entry, from the first folder.
+    last: PathBuf,
     tree: Tree,
 }
 
-impl Walk {
-    /// `place` is the folder's path below the first one.
-    fn folder(&mut self, folder: &Path, place: &Path) {
-        let names = fs::canonicalize(folder).and_then(|real| Ok((real, sorted_names(folder)?)));
-        let (real, names) = match names {
-            Ok(found) => found,
-            Err(error) => return self.report(folder, &error),
+impl Walk<'_> {
+    fn entry(&mut self, entry: &DirEntry) {
+        let path = entry.path();
+        self.last = self.below(path).to_owned();
+        let judged = match entry.file_type() {
+            kind if kind.is_dir() => Ok(is_capture(path)),
+            // Its folder is the capture, if the file can be seen.
+            _ if PARTS.iter().any(|part| path.ends_with(part)) => path.symlink_metadata().map(|_| false),
+            kind if kind.is_file() => is_state(path).map(|is_state| is_state || named_as_state(path)),
+            // A pipe would be waited for.
+            _ if named_as_state(path) => Err(io::Error::other("not a file")),
+            _ => Ok(false),
         };
-        // A link may lead back up.
-        let below_first = !self.above.is_empty();
-        if self.above.contains(&real) || below_first && self.out.as_ref() == Some(&real) {
-            return;
+        match judged {
+            Ok(true) => self.found(path),
+            Ok(false) => {}
+            Err(error) => self.report(path, &error.to_string()),
         }
-        if is_capture(folder) {
-            self.found(folder, place);
-        }
-        self.above.push(real);
-        for name in names {
-            self.entry(&folder.join(&name), &place.join(&name));
-        }
-        self.above.pop();
     }
 
-    fn entry(&mut self, path: &Path, place: &Path) {
-        let part = path.file_name().is_some_and(|name| PARTS.iter().any(|part| name == *part));
-        match fs::metadata(path) {
-            Ok(found) if found.is_dir() => self.folder(path, place),
-            Ok(found) if found.is_file() && !part => self.file(path, place),
-            _ if named_as_state(path) => self.found(path, place),
+    fn error(&mut self, error: &walkdir::Error) {
+        match (error.path(), error.io_error()) {
+            // A link that leads back up.
+            (_, None) => {}
+            // The walk doesn't name a link to a folder that is shut; it lies in the last entry's folder of its depth.
+            (None, Some(cause)) => {
+                let inside: PathBuf = self.last.components().take(error.depth().saturating_sub(1)).collect();
+                self.report(&self.folder.join(inside), &format!("a link in it: {cause}"));
+            }
+            (Some(path), Some(cause)) if cause.kind() != io::ErrorKind::NotFound => {
+                self.report(path, &cause.to_string())
+            }
             // A link to nothing.
-            Err(error) if error.kind() != io::ErrorKind::NotFound => self.report(path, &error),
+            (Some(path), _) if named_as_state(path) => self.found(path),
             _ => {}
         }
     }
 
-    fn file(&mut self, path: &Path, place: &Path) {
-        match is_state(path) {
-            Ok(is_state) if is_state || named_as_state(path) => self.found(path, place),
-            Ok(_) => {}
-            Err(error) => self.report(path, &error),
-        }
+    fn below<'a>(&self, path: &'a Path) -> &'a Path {
+        path.strip_prefix(self.folder).unwrap_or(path)
     }
 
-    fn found(&mut self, path: &Path, place: &Path) {
-        self.tree.captures.push(Found { path: path.to_owned(), frame: frame_name(place) });
+    fn found(&mut self, path: &Path) {
+        let frame = frame_name(&self.place.join(self.below(path)));
+        self.tree.captures.push(Found { path: path.to_owned(), frame });
     }
 
-    fn report(&mut self, path: &Path, error: &io::Error) {
-        let error = anyhow!("can't be read: {error}, expected a folder or a file that can; let it be read or move it");
+    fn report(&mut self, path: &Path, cause: &str) {
+        let error = anyhow!("can't be read: {cause}, expected a folder or a file that can; let it be read or move it");
         self.tree.unreadable.push((path.to_owned(), error.context(path.display().to_string())));
     }
-}
-
-fn sorted_names(folder: &Path) -> io::Result<Vec<OsString>> {
-    let names: io::Result<Vec<OsString>> = fs::read_dir(folder)?.map(|entry| Ok(entry?.file_name())).collect();
-    let mut names = names?;
-    names.sort();
-    Ok(names)
 }
 
 /// The frame of a capture at this place in the tree: the same path with `.png` after it. So a name says which capture

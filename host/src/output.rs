@@ -1,11 +1,13 @@
 //! What the command leaves behind: files that are whole, and progress on a terminal.
 
-use std::fs::{self, File};
+use std::fs::{self, Permissions};
 use std::io::{self, Write};
-use std::path::{Path, PathBuf};
+use std::os::unix::fs::PermissionsExt;
+use std::path::Path;
 
 use anyhow::{Result, anyhow, ensure};
 use indicatif::{ProgressBar, ProgressStyle};
+use tempfile::Builder;
 
 /// Progress on stderr, shown only where that is a terminal.
 pub fn progress_bar(len: u64) -> ProgressBar {
@@ -19,28 +21,27 @@ pub fn write(path: &Path, bytes: &[u8], way_out: &str) -> Result<()> {
     let target = fs::canonicalize(path).unwrap_or_else(|_| path.to_owned());
     ensure!(!target.exists() || target.is_file(), "not a file, expected one to write; {way_out}");
     ensure!(target.file_name().is_some(), "no file name, expected one; {way_out}");
-    replace(&target, bytes).map_err(|error| anyhow!("can't be written: {error}; {way_out}"))
+    replace(&target, bytes).map_err(|error| {
+        let error = error.to_string();
+        // The temporary name, which tempfile adds, says nothing to people.
+        let cause = error.split(" at path ").next().unwrap_or_default();
+        anyhow!("can't be written: {cause}; {way_out}")
+    })
 }
 
 fn replace(target: &Path, bytes: &[u8]) -> io::Result<()> {
-    let (temporary, mut file) = create_beside(target)?;
-    let written = file.write_all(bytes).and_then(|()| fs::rename(&temporary, target));
-    if written.is_err() {
-        // The first error is the one to report.
-        let _ = fs::remove_file(&temporary);
-    }
-    written
+    let folder = target.parent().unwrap_or(Path::new(""));
+    let file = Builder::new().prefix(".ashlarkin-").suffix(".tmp").tempfile_in(folder)?;
+    file.as_file().write_all(bytes)?;
+    // A temporary file is its owner's alone; this becomes an ordinary one.
+    file.as_file().set_permissions(Permissions::from_mode(0o666 & !umask()))?;
+    file.persist(target)?;
+    Ok(())
 }
 
-/// A new file in the target's folder, past the names that a killed run or another thread holds.
-fn create_beside(target: &Path) -> io::Result<(PathBuf, File)> {
-    let process = std::process::id();
-    for n in 0..1000 {
-        let path = target.with_file_name(format!(".ashlarkin-{process}-{n}.tmp"));
-        match File::create_new(&path) {
-            Err(error) if error.kind() == io::ErrorKind::AlreadyExists => continue,
-            file => return Ok((path, file?)),
-        }
-    }
-    Err(io::ErrorKind::AlreadyExists.into())
+/// The rights that a new file of this process doesn't get. Only Linux says them without a change.
+fn umask() -> u32 {
+    let status = fs::read_to_string("/proc/self/status").unwrap_or_default();
+    let mask = status.lines().find_map(|line| line.strip_prefix("Umask:"));
+    mask.and_then(|mask| u32::from_str_radix(mask.trim(), 8).ok()).unwrap_or(0o022)
 }

@@ -53,8 +53,8 @@ fn single(capture: &Path, folder: &Path) -> Vec<u8> {
 /// Ten ways to be damaged: the capture's path, the path that the error names, and its words.
 fn write_damaged(folder: &Path) -> Vec<(PathBuf, PathBuf, &'static str)> {
     fs::create_dir_all(folder).unwrap();
-    let raw = fs::read(sample("scene.ss0")).unwrap();
-    let png = fs::read(sample("scene.state.png")).unwrap();
+    let raw = fs::read(sample("scene/capture.ss0")).unwrap();
+    let png = fs::read(sample("scene/capture.state.png")).unwrap();
     let mut flipped = png.clone();
     flipped[15_000] ^= 1;
     let mut damaged = vec![];
@@ -97,16 +97,16 @@ fn two_hundred_with_ten_damaged() {
     let scratch = scratch("batch/two_hundred");
     let [folder, out] = ["caps", "frames"].map(|name| scratch.join(name));
     let mut expected = BTreeMap::new();
-    let scene = single(&sample("scene.ss0"), &scratch);
-    let two_tone = single(&sample("scene-two-tone.state.png"), &scratch);
+    let scene = single(&sample("scene/capture.ss0"), &scratch);
+    let two_tone = single(&sample("scene-two-tone/capture.state.png"), &scratch);
     for number in 0..190 {
         let place = PathBuf::from(format!("{}/{number:03}", ["a", "b/c", "d e"][number % 3]));
         let path = folder.join(&place);
         let sample_of = match number % 4 {
             0 => None,
-            1 => Some("scene.ss0"),
-            2 => Some("scene.state.png"),
-            _ => Some("scene-two-tone.state.png"),
+            1 => Some("scene/capture.ss0"),
+            2 => Some("scene/capture.state.png"),
+            _ => Some("scene-two-tone/capture.state.png"),
         };
         match sample_of {
             None => write_scene(&path),
@@ -134,15 +134,24 @@ fn two_hundred_with_ten_damaged() {
 }
 
 #[test]
+fn the_samples_are_drawn() {
+    let out = scratch("batch/samples").join("frames");
+    all_drawn(&sample(""), &out, 3, &["--reading", "H"]);
+    let states = ["scene/capture.ss0", "scene/capture.state.png", "scene-two-tone/capture.state.png"];
+    assert_eq!(places(&out), states.map(|state| format!("{state}.png")));
+}
+
+#[test]
 fn json_says_the_same() {
     let scratch = scratch("batch/json");
     let [folder, out] = ["caps", "frames"].map(|name| scratch.join(name));
     let damaged = write_damaged(&folder);
-    fs::copy(sample("scene.ss0"), folder.join("whole \"one\".ss0")).unwrap();
+    fs::copy(sample("scene/capture.ss0"), folder.join("whole \"one\".ss0")).unwrap();
     let run = batch(&folder, &out, &["--json"]);
     assert_eq!(run.status.code(), Some(1));
     let objects: Vec<Value> = stdout(&run).lines().map(|line| serde_json::from_str(line).unwrap()).collect();
     assert_eq!(objects.len(), 12);
+    assert!(objects[..11].iter().map(|object| Path::new(object["capture"].as_str().unwrap())).is_sorted());
     let summary = &objects[11]["summary"];
     assert_eq!((&summary["captures"], &summary["drawn"], &summary["failed"]), (&11.into(), &1.into(), &10.into()));
     let of = |path: &Path| objects.iter().find(|object| object["capture"] == path.to_str().unwrap()).unwrap();
@@ -175,24 +184,63 @@ fn other_files_are_passed_over() {
     {
         fs::write(folder.join(name), bytes).unwrap();
     }
-    fs::copy(sample("scene.mgba-frame.png"), folder.join("screenshot.png")).unwrap();
+    fs::copy(sample("scene/mgba.png"), folder.join("screenshot.png")).unwrap();
     make_pipe(&folder.join("pipe"));
     symlink("nowhere", folder.join("broken")).unwrap();
     let run = batch(&folder, &out, &[]);
     check_refused(&run, &folder, &["no capture below it"]);
     assert!(!out.exists());
-    fs::copy(sample("scene.state.png"), folder.join("a.png")).unwrap();
+    fs::copy(sample("scene/capture.state.png"), folder.join("a.png")).unwrap();
     all_drawn(&folder, &out, 1, &[]);
     assert_eq!(places(&out), ["a.png.png"]);
 
     // A name that says it is a state is taken at its word.
     fs::rename(folder.join("screenshot.png"), folder.join("screenshot.state.png")).unwrap();
     fs::rename(folder.join("broken"), folder.join("broken.ss1")).unwrap();
+    fs::rename(folder.join("pipe"), folder.join("pipe.ss2")).unwrap();
     let run = batch(&folder, &out, &[]);
     let lines: Vec<&str> = stderr(&run).lines().collect();
-    assert_eq!((run.status.code(), lines.len()), (Some(1), 2));
+    assert_eq!((run.status.code(), lines.len()), (Some(1), 3));
     assert!(lines[0].contains("broken.ss1: can't be read: No such file"), "{lines:?}");
     assert!(lines[1].contains("screenshot.state.png: PNG with no gbAs chunk"), "{lines:?}");
+    assert!(lines[2].contains("pipe.ss2: can't be read: not a file"), "{lines:?}");
+}
+
+/// Where nothing in it, or in its name, is left to say so.
+#[test]
+fn what_may_have_been_a_capture_is_reported() {
+    let scratch = scratch("batch/may_have_been");
+    let [folder, out] = ["caps", "frames"].map(|name| scratch.join(name));
+    fs::create_dir_all(folder.join("part")).unwrap();
+    let [raw, state, picture] =
+        ["capture.ss0", "capture.state.png", "mgba.png"].map(|name| fs::read(sample("scene").join(name)).unwrap());
+    let kind = state.windows(4).position(|bytes| bytes == b"gbAs").unwrap();
+    let renamed = [&state[..kind], b"GbAs", &state[kind + 4..]].concat();
+    let damaged = [
+        ("cut 0.png", &[][..], "0 bytes, expected 397312"),
+        ("cut 1.PNG", &state[..1], "1 bytes, expected 397312"),
+        ("cut 8", &state[..8], "PNG damaged at byte 8, expected whole chunks: ends inside a chunk"),
+        ("cut 9000.png", &state[..9000], "PNG damaged at byte 8237, expected whole chunks: ends inside a chunk"),
+        ("cut chunk.png", &state[..kind], "PNG damaged at byte 14798, expected whole chunks: ends inside a chunk"),
+        ("cut picture.png", &picture[..picture.len() - 1], "ends inside a chunk"),
+        ("part/registers.bin", b"", ""),
+        ("raw 4", &raw[..4], "4 bytes, expected 397312"),
+        ("renamed.png", &renamed, "CRC"),
+    ];
+    for (name, bytes, _) in damaged {
+        fs::write(folder.join(name), bytes).unwrap();
+    }
+    // A picture that is whole, and a file longer than any capture.
+    fs::write(folder.join("whole.png"), &picture).unwrap();
+    fs::write(folder.join("long.png"), [&state[..9000], &vec![0; 0x100_0000]].concat()).unwrap();
+    let run = batch(&folder, &out, &[]);
+    let lines: Vec<&str> = stderr(&run).lines().collect();
+    assert_eq!((run.status.code(), lines.len()), (Some(1), damaged.len()), "{lines:?}");
+    for (line, (name, _, words)) in lines.iter().zip(damaged) {
+        let named = folder.join(name.replace("registers", "vram"));
+        assert!(line.starts_with(&format!("{}: ", named.display())) && line.contains(words), "{line}");
+    }
+    assert!(stdout(&run).starts_with("9 captures: 0 drawn, 9 failed; "), "{}", stdout(&run));
 }
 
 #[test]
@@ -202,7 +250,7 @@ fn frames_mirror_the_tree() {
     write_scene(&folder.join("x"));
     write_scene(&folder.join("x/inside"));
     write_scene(&folder.join("x.png/y"));
-    fs::copy(sample("scene.ss0"), folder.join("x.png/y.ss0")).unwrap();
+    fs::copy(sample("scene/capture.ss0"), folder.join("x.png/y.ss0")).unwrap();
     all_drawn(&folder, &out, 4, &[]);
     assert_eq!(places(&out), ["x/inside.png", "x.png", "x.png.d/y.png", "x.png.d/y.ss0.png"]);
     // A folder that is itself a capture, and has others below.
@@ -216,12 +264,12 @@ fn a_frame_never_replaces_a_capture() {
     let folder = scratch("batch/replace");
     write_scene(&folder.join("scene"));
     write_scene(&folder.join("other"));
-    fs::copy(sample("scene.state.png"), folder.join("scene.png")).unwrap();
+    fs::copy(sample("scene/capture.state.png"), folder.join("scene.png")).unwrap();
     let run = batch(&folder, &folder, &[]);
     let words = "scene.png: a file of a capture, which the frame would replace";
     assert!(run.status.code() == Some(1) && stderr(&run).contains(words), "{}", stderr(&run));
     assert!(stdout(&run).starts_with("3 captures: 2 drawn, 1 failed"));
-    assert!(fs::read(folder.join("scene.png")).unwrap() == fs::read(sample("scene.state.png")).unwrap());
+    assert!(fs::read(folder.join("scene.png")).unwrap() == fs::read(sample("scene/capture.state.png")).unwrap());
     assert!(folder.join("other.png").exists() && folder.join("scene.png.png").exists());
 }
 
@@ -229,7 +277,7 @@ fn a_frame_never_replaces_a_capture() {
 fn frames_among_the_captures_are_no_captures() {
     let folder = scratch("batch/among");
     let out = folder.join("frames");
-    fs::copy(sample("scene.ss0"), folder.join("a.state")).unwrap();
+    fs::copy(sample("scene/capture.ss0"), folder.join("a.state")).unwrap();
     for _ in 0..2 {
         all_drawn(&folder, &out, 1, &[]);
         assert_eq!(places(&out), ["a.state.png"]);
@@ -243,10 +291,12 @@ fn links_are_followed_and_loops_end() {
     write_scene(&scratch.join("elsewhere/scene"));
     fs::create_dir_all(folder.join("below")).unwrap();
     symlink(scratch.join("elsewhere"), folder.join("linked")).unwrap();
-    symlink(sample("scene.ss0"), folder.join("state")).unwrap();
+    symlink(sample("scene/capture.ss0"), folder.join("state")).unwrap();
+    // Back up, and around by the folder above the first, which has another capture.
     symlink(&folder, folder.join("below/loop")).unwrap();
-    all_drawn(&folder, &out, 2, &[]);
-    assert_eq!(places(&out), ["linked/scene.png", "state.png"]);
+    symlink(&scratch, folder.join("below/around")).unwrap();
+    all_drawn(&folder, &out, 3, &[]);
+    assert_eq!(places(&out), ["below/around/elsewhere/scene.png", "linked/scene.png", "state.png"]);
 }
 
 #[test]
@@ -256,7 +306,7 @@ fn every_number_of_jobs_draws_the_same() {
     for name in ["a", "b", "c", "d", "e"] {
         write_scene(&folder.join(name));
     }
-    fs::copy(sample("scene-two-tone.state.png"), folder.join("f.ss0")).unwrap();
+    fs::copy(sample("scene-two-tone/capture.state.png"), folder.join("f.ss0")).unwrap();
     let drawn = |jobs: &str| {
         let out = scratch.join(format!("frames {jobs}"));
         all_drawn(&folder, &out, 6, &["--jobs", jobs, "--scale", "2", "--reading", "H"]);
@@ -282,14 +332,14 @@ fn the_reading_is_passed_on() {
 fn folders_that_cant_be_used_are_refused() {
     let folder = scratch("batch/folders");
     let [missing, out, file] = ["missing", "frames", "a.ss0"].map(|name| folder.join(name));
-    fs::copy(sample("scene.ss0"), &file).unwrap();
+    fs::copy(sample("scene/capture.ss0"), &file).unwrap();
     check_refused(&batch(&missing, &out, &[]), &missing, &["No such file", "expected a folder with captures"]);
     check_refused(&batch(&file, &out, &[]), &file, &["not a folder", "ashlarkin frame"]);
     assert_eq!(names(&folder), std::slice::from_ref(&file), "nothing is made for a batch that can't be");
     check_refused(&batch(&folder, &file, &[]), &file, &["can't be made", "give -o"]);
     check_refused(&batch(&folder, &file.join("below"), &[]), &file.join("below"), &["can't be made", "give -o"]);
     // A folder stands where the frame should: the one is reported, the others are drawn.
-    fs::copy(sample("scene.ss0"), folder.join("b.ss0")).unwrap();
+    fs::copy(sample("scene/capture.ss0"), folder.join("b.ss0")).unwrap();
     fs::create_dir_all(out.join("a.ss0.png/in the way")).unwrap();
     let run = batch(&folder, &out, &[]);
     assert_eq!(run.status.code(), Some(1));
@@ -304,11 +354,12 @@ fn what_may_not_be_read_is_reported_and_the_rest_drawn() {
     for name in ["closed", "open"] {
         write_scene(&folder.join(name));
     }
-    for name in ["shut", "listed"] {
-        fs::create_dir(folder.join(name)).unwrap();
+    for name in ["shut", "listed", "links/before/below"] {
+        fs::create_dir_all(folder.join(name)).unwrap();
     }
+    symlink("../shut", folder.join("links/link")).unwrap();
     for name in ["state", "listed/state"] {
-        fs::copy(sample("scene.ss0"), folder.join(name)).unwrap();
+        fs::copy(sample("scene/capture.ss0"), folder.join(name)).unwrap();
     }
     for name in ["closed/oam.bin", "shut", "state"] {
         forbid(&folder.join(name), 0o000);
@@ -317,11 +368,13 @@ fn what_may_not_be_read_is_reported_and_the_rest_drawn() {
     forbid(&folder.join("listed"), 0o444);
     let run = unprivileged.run(&["batch", "caps", "-o", "frames"]);
     assert_eq!(run.status.code(), Some(1));
-    for name in ["closed/oam.bin", "listed/state", "shut", "state"] {
-        let start = format!("caps/{name}: can't be read: Permission denied");
+    for (name, where_in) in
+        [("closed/oam.bin", ""), ("links", "a link in it: "), ("listed/state", ""), ("shut", ""), ("state", "")]
+    {
+        let start = format!("caps/{name}: can't be read: {where_in}Permission denied");
         assert!(stderr(&run).lines().any(|line| line.starts_with(&start)), "{start} in {}", stderr(&run));
     }
-    assert!(stdout(&run).starts_with("5 captures: 1 drawn, 4 failed"), "{}", stdout(&run));
+    assert!(stdout(&run).starts_with("6 captures: 1 drawn, 5 failed"), "{}", stdout(&run));
     assert_eq!(places(&unprivileged.folder.join("frames")), ["open.png"]);
 }
 

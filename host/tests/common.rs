@@ -160,7 +160,7 @@ pub fn scene_folder(folder: &Path) -> PathBuf {
 
 /// The scene's state as this folder.
 pub fn write_scene(capture: &Path) {
-    let state = fs::read(sample("scene.ss0")).unwrap();
+    let state = fs::read(sample("scene/capture.ss0")).unwrap();
     fs::create_dir_all(capture).unwrap();
     let vram = [&state[0x1000..0x19000], &[0; 0x8000]].concat();
     fs::write(capture.join("vram.bin"), vram).unwrap();

@@ -93,7 +93,7 @@ fn a_difference_is_found_kept_and_replayed() {
         ("background@150", "step on records 0", "background 3 BgAffine {"),
     ] {
         let case = flip.split('@').nth(1).unwrap();
-        let run = compare(&folder, &["--cases", "300", "--seed", "1", "--keep", "kept.txt", "--flip-for-test", flip]);
+        let run = compare(&folder, &["--cases", "300", "--seed", "1", "--keep", "kept.json", "--flip-for-test", flip]);
         let place = format!("seed 1, case {case}, {call}");
         let text = stderr(&run);
         assert_eq!(
@@ -102,46 +102,56 @@ fn a_difference_is_found_kept_and_replayed() {
             "{flip}"
         );
         assert!(text.starts_with(&place) && text.contains(words), "{flip}: {text}");
-        assert!(text.contains("ashlarkin compare --replay kept.txt"), "{text}");
+        assert!(text.contains("ashlarkin compare --replay kept.json"), "{text}");
 
-        let again = compare(&folder, &["--replay", "kept.txt", "--flip-for-test", flip]);
+        let again = compare(&folder, &["--replay", "kept.json", "--flip-for-test", flip]);
         let found = stderr(&again);
-        assert!(again.status.code() == Some(1) && found.starts_with(&format!("kept.txt: {place}")), "{flip}: {found}");
+        assert!(again.status.code() == Some(1) && found.starts_with(&format!("kept.json: {place}")), "{flip}: {found}");
         assert!(found.contains(words) && stdout(&again).contains("another answer or other bytes"), "{flip}: {found}");
 
         // It was the flip alone.
-        let same = compare(&folder, &["--replay", "kept.txt"]);
+        let same = compare(&folder, &["--replay", "kept.json"]);
         assert_eq!((same.status.code(), stderr(&same)), (Some(0), ""));
         assert!(stdout(&same).ends_with(&format!("case {case}: no difference\n")), "{}", stdout(&same));
     }
-    // The last case of all, and one past it.
+}
+
+#[test]
+fn the_last_case_is_compared_and_none_past_it() {
+    let folder = scratch("compare/last");
     let last = compare(&folder, &["--cases", "130", "--seed", "1", "--flip-for-test", "pixel@129"]);
     assert_eq!(last.status.code(), Some(1));
-    assert_eq!(names(&folder), ["ashlarkin-difference.txt", "kept.txt"].map(|name| folder.join(name)));
+    assert_eq!(names(&folder), [folder.join("ashlarkin-difference.json")]);
     counts(&compare(&folder, &["--cases", "129", "--seed", "1", "--flip-for-test", "pixel@129"]));
 }
 
 #[test]
 fn a_kept_file_may_be_damaged() {
     let folder = scratch("compare/kept");
-    compare(&folder, &["--cases", "1", "--seed", "1", "--keep", "kept.txt", "--flip-for-test", "pixel@0"]);
-    let whole = fs::read_to_string(folder.join("kept.txt")).unwrap();
+    compare(&folder, &["--cases", "1", "--seed", "1", "--keep", "kept.json", "--flip-for-test", "pixel@0"]);
+    let whole = fs::read_to_string(folder.join("kept.json")).unwrap();
     let replay = |bytes: &[u8], words: &[&str]| {
-        fs::write(folder.join("damaged.txt"), bytes).unwrap();
-        let run = compare(&folder, &["--replay", "damaged.txt"]);
-        check_refused(&run, Path::new("damaged.txt"), words);
+        fs::write(folder.join("damaged.json"), bytes).unwrap();
+        let run = compare(&folder, &["--replay", "damaged.json"]);
+        check_refused(&run, Path::new("damaged.json"), words);
+        run.stderr.len()
     };
-    replay(b"", &["starts with ''", "expected 'ashlarkin difference 1'"]);
-    replay(&fs::read(sample("scene.ss0")).unwrap(), &["can't be read", "expected a difference"]);
-    replay(&whole.as_bytes()[..whole.len() / 2], &["expected"]);
-    replay(whole.replacen("draws 1", "draws 2", 1).as_bytes(), &["ends after line"]);
-    replay(whole.replacen("vram ", "vram g", 1).as_bytes(), &["vram isn't hex"]);
-    let missing = compare(&folder, &["--replay", "missing.txt"]);
-    check_refused(&missing, Path::new("missing.txt"), &["No such file"]);
-    let nowhere = compare(&folder, &["--cases", "1", "--keep", "missing/kept.txt", "--flip-for-test", "pixel@0"]);
+    replay(b"", &["EOF while parsing", "expected a difference that `compare` kept"]);
+    replay(
+        &fs::read(sample("scene/capture.ss0")).unwrap(),
+        &["expected value at line 1 column 1", "expected a difference"],
+    );
+    replay(&whole.as_bytes()[..whole.len() / 2], &["EOF while parsing a string at line"]);
+    replay(whole.replacen("\"vram\": \"", "\"vram\": \"g", 1).as_bytes(), &["Odd number of digits at line"]);
+    // What is quoted of a long value is short.
+    let long = whole.replacen("\"seed\": 1", &format!("\"seed\": \"{}\"", "0".repeat(300_000)), 1);
+    assert!(replay(long.as_bytes(), &["invalid type: string", "expected a difference"]) < 400);
+    let missing = compare(&folder, &["--replay", "missing.json"]);
+    check_refused(&missing, Path::new("missing.json"), &["No such file"]);
+    let nowhere = compare(&folder, &["--cases", "1", "--keep", "missing/kept.json", "--flip-for-test", "pixel@0"]);
     let text = stderr(&nowhere);
     assert!(nowhere.status.code() == Some(1) && text.lines().count() == 1, "{text}");
-    assert!(text.starts_with("missing/kept.txt: can't be written: ") && text.contains("give --keep"), "{text}");
+    assert!(text.starts_with("missing/kept.json: can't be written: ") && text.contains("give --keep"), "{text}");
 }
 
 #[test]
@@ -152,8 +162,8 @@ fn bad_usage_is_told_apart() {
         &["--cases", "x"],
         &["--seed", "-1"],
         &["--reading", "X"],
-        &["--replay", "kept.txt", "--cases", "5"],
-        &["--replay", "kept.txt", "--seed", "5"],
+        &["--replay", "kept.json", "--cases", "5"],
+        &["--replay", "kept.json", "--seed", "5"],
         &["--flip-for-test", "pixel"],
         &["--flip-for-test", "nothing@1"],
     ] {

@@ -1,9 +1,10 @@
 //! `ashlarkin frame` on real captures, on damaged ones and with bad usage.
 
 use std::fs;
-use std::os::unix::fs::symlink;
+use std::os::unix::fs::{PermissionsExt, symlink};
 use std::os::unix::net::UnixListener;
 use std::path::Path;
+use std::process::Command;
 
 use crate::common::*;
 
@@ -20,24 +21,24 @@ fn compare(drawn: &Picture, mgba: &Picture, allowed: fn([u8; 3]) -> u8) {
 #[test]
 fn two_tone_is_mgbas_frame() {
     let folder = scratch("frame/two_tone");
-    let drawn = drawn(&sample("scene-two-tone.state.png"), &folder, &["--reading", "H"]);
-    compare(&drawn, &read_png(&sample("scene-two-tone.mgba-frame.png")), |_| 0);
+    let drawn = drawn(&sample("scene-two-tone/capture.state.png"), &folder, &["--reading", "H"]);
+    compare(&drawn, &read_png(&sample("scene-two-tone/mgba.png")), |_| 0);
 }
 
 #[test]
 fn scene_is_mgbas_frame_but_for_its_blending() {
     let folder = scratch("frame/scene");
-    let drawn = drawn(&sample("scene.state.png"), &folder, &["--reading", "H"]);
+    let drawn = drawn(&sample("scene/capture.state.png"), &folder, &["--reading", "H"]);
     // mGBA fills a channel's low three bits from its high ones, except where it blended, which it does in 8 bits.
     let blended = |pixel: [u8; 3]| pixel.iter().any(|value| value & 7 != value >> 5).into();
-    compare(&drawn, &read_png(&sample("scene.mgba-frame.png")), blended);
+    compare(&drawn, &read_png(&sample("scene/mgba.png")), blended);
 }
 
 #[test]
 fn every_form_of_a_capture_draws_the_same() {
     let folder = scratch("frame/forms");
-    let raw = drawn(&sample("scene.ss0"), &folder, &[]);
-    let png = drawn(&sample("scene.state.png"), &folder, &[]);
+    let raw = drawn(&sample("scene/capture.ss0"), &folder, &[]);
+    let png = drawn(&sample("scene/capture.state.png"), &folder, &[]);
     assert!(raw.pixels == png.pixels);
     let capture = scene_folder(&folder);
     assert!(raw.pixels == drawn(&capture, &folder, &[]).pixels);
@@ -49,9 +50,9 @@ fn every_form_of_a_capture_draws_the_same() {
 #[test]
 fn scale_repeats_pixels() {
     let folder = scratch("frame/scale");
-    let one = drawn(&sample("scene.ss0"), &folder, &["--scale", "1"]);
+    let one = drawn(&sample("scene/capture.ss0"), &folder, &["--scale", "1"]);
     for scale in [2, 16] {
-        let many = drawn(&sample("scene.ss0"), &folder, &["--scale", &scale.to_string()]);
+        let many = drawn(&sample("scene/capture.ss0"), &folder, &["--scale", &scale.to_string()]);
         assert_eq!((many.width, many.height), (240 * scale, 160 * scale));
         for (i, pixel) in many.pixels.iter().enumerate() {
             let (x, y) = (i % many.width / scale, i / many.width / scale);
@@ -125,8 +126,8 @@ fn damaged_folders_are_refused() {
 #[test]
 fn damaged_states_are_refused() {
     let folder = scratch("frame/states");
-    let raw = fs::read(sample("scene.ss0")).unwrap();
-    let png = fs::read(sample("scene.state.png")).unwrap();
+    let raw = fs::read(sample("scene/capture.ss0")).unwrap();
+    let png = fs::read(sample("scene/capture.state.png")).unwrap();
     let capture = folder.join("damaged.ss0");
     let damaged = |bytes: &[u8], words: &[&str]| {
         fs::write(&capture, bytes).unwrap();
@@ -141,14 +142,14 @@ fn damaged_states_are_refused() {
     }
     damaged(&[&[0xff], &raw[1..]].concat(), &["version 255, expected 7"]);
     damaged(&[&raw[..3], &[0], &raw[4..]].concat(), &["0x00000007, expected 0x01000007"]);
-    let screenshot = fs::read(sample("scene.mgba-frame.png")).unwrap();
+    let screenshot = fs::read(sample("scene/mgba.png")).unwrap();
     damaged(&screenshot, &["no gbAs chunk"]);
 }
 
 #[test]
 fn a_flipped_bit_of_a_png_state_is_refused() {
     let folder = scratch("frame/flipped");
-    let png = fs::read(sample("scene.state.png")).unwrap();
+    let png = fs::read(sample("scene/capture.state.png")).unwrap();
     let kind = png.windows(4).position(|bytes| bytes == b"gbAs").unwrap();
     let length = u32::from_be_bytes(png[kind - 4..kind].try_into().unwrap()) as usize;
     let capture = folder.join("flipped.png");
@@ -164,7 +165,7 @@ fn a_flipped_bit_of_a_png_state_is_refused() {
 #[test]
 fn a_flipped_bit_elsewhere_draws_a_whole_frame_or_none() {
     let folder = scratch("frame/flipped_elsewhere");
-    let whole = drawn(&sample("scene.ss0"), &folder, &[]);
+    let whole = drawn(&sample("scene/capture.ss0"), &folder, &[]);
     let (mut refusals, mut others) = (0, 0);
     for (name, len) in FILES {
         for place in [0, 1, len / 3, len / 2, len - 2, len - 1] {
@@ -203,7 +204,7 @@ fn what_may_not_be_read_or_written_is_refused() {
     let unprivileged = Unprivileged::new("frame");
     let folder = &unprivileged.folder;
     let state = folder.join("scene.ss0");
-    fs::copy(sample("scene.ss0"), &state).unwrap();
+    fs::copy(sample("scene/capture.ss0"), &state).unwrap();
     let run = |capture: &Path, output: &Path| {
         unprivileged.run(&["frame", capture.to_str().unwrap(), "-o", output.to_str().unwrap()])
     };
@@ -232,7 +233,7 @@ fn paths_may_have_spaces() {
     let folder = scratch("frame/with spaces in it").join(" a b ");
     fs::create_dir(&folder).unwrap();
     let state = folder.join("the scene .ss0");
-    fs::copy(sample("scene.ss0"), &state).unwrap();
+    fs::copy(sample("scene/capture.ss0"), &state).unwrap();
     let output = folder.join(" the frame.png");
     let run = frame(&state, &output, &[]);
     assert_eq!(run.status.code(), Some(0), "{}", stderr(&run));
@@ -266,7 +267,7 @@ fn what_is_no_capture_is_refused() {
 fn an_output_that_cant_be_written_is_refused() {
     let folder = scratch("frame/output");
     let state = folder.join("scene.ss0");
-    fs::copy(sample("scene.ss0"), &state).unwrap();
+    fs::copy(sample("scene/capture.ss0"), &state).unwrap();
     let capture = scene_folder(&folder);
     // In place of a device, which a wrong command would replace.
     let socket = folder.join("socket");
@@ -285,7 +286,7 @@ fn an_output_that_cant_be_written_is_refused() {
         check_refused(&frame(from, &output, &[]), &output, &[word, "give -o"]);
     }
     assert_eq!(names(&folder), before);
-    assert_eq!(fs::read(&state).unwrap(), fs::read(sample("scene.ss0")).unwrap());
+    assert_eq!(fs::read(&state).unwrap(), fs::read(sample("scene/capture.ss0")).unwrap());
 }
 
 #[test]
@@ -299,7 +300,7 @@ fn an_old_frame_stays_unless_a_new_one_is_drawn() {
     let before = names(&folder);
     assert_eq!(frame(&capture, &link, &[]).status.code(), Some(1));
     assert_eq!(fs::read(&output).unwrap(), b"old");
-    assert_eq!(frame(&sample("scene.ss0"), &link, &[]).status.code(), Some(0));
+    assert_eq!(frame(&sample("scene/capture.ss0"), &link, &[]).status.code(), Some(0));
     assert_eq!(read_png(&output).width, 240);
     // A frame is a new file, put in place when it is whole; a link stays a link.
     assert_eq!(fs::read(&twin).unwrap(), b"old");
@@ -307,10 +308,28 @@ fn an_old_frame_stays_unless_a_new_one_is_drawn() {
     assert_eq!(names(&folder), before);
 }
 
+/// As a file that the shell makes, whether there was one before or not.
+#[test]
+fn a_frame_has_the_rights_of_a_new_file() {
+    let folder = scratch("frame/rights");
+    let [output, other] = ["frame.png", "other"].map(|name| folder.join(name));
+    let capture = sample("scene/capture.ss0");
+    for umask in ["022", "077", "002"] {
+        let line = format!("umask {umask}; : > \"$1\"; exec \"$0\" frame \"$2\" -o \"$3\"");
+        let mut shell = Command::new("sh");
+        shell.args(["-c", &line, env!("CARGO_BIN_EXE_ashlarkin")]).args([&other, &capture, &output]);
+        assert!(shell.status().unwrap().success());
+        let rights = |path: &Path| fs::metadata(path).unwrap().permissions().mode();
+        assert_eq!(rights(&output), rights(&other), "umask {umask}");
+        fs::remove_file(&other).unwrap();
+    }
+    assert_eq!(names(&folder), [output]);
+}
+
 #[test]
 fn bad_usage_is_told_apart() {
     let folder = scratch("frame/usage");
-    let capture = sample("scene.ss0");
+    let capture = sample("scene/capture.ss0");
     let output = folder.join("frame.png");
     let (capture, output) = (capture.to_str().unwrap(), output.to_str().unwrap());
     let full = ["frame", capture, "-o", output];
@@ -328,7 +347,7 @@ fn bad_usage_is_told_apart() {
 #[test]
 fn help_has_examples() {
     for (line, word) in [
-        (&["--help"][..], "ashlarkin frame samples/scene.ss0 -o frame.png"),
+        (&["--help"][..], "ashlarkin frame samples/scene/capture.ss0 -o frame.png"),
         (&["frame", "--help"], "ashlarkin frame caps/07 -o frame.png"),
         (&["frame", "--help"], "Example: --reading H"),
         (&["frame", "-h"], "--scale <N>"),

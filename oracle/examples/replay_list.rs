@@ -28,7 +28,7 @@ const IMAGE_LEN: usize = VRAM_LEN + 64;
 /// Room for references of another length.
 const REFERENCES_ROOM: usize = 32;
 
-const SAMPLE: &[u8] = include_bytes!("../../samples/scene.ss0");
+const SAMPLE: &[u8] = include_bytes!("../../samples/scene/capture.ss0");
 
 /// What a record calls.
 #[derive(Clone, Copy)]

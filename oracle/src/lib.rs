@@ -2,6 +2,7 @@
 //! interface of document 01. This file is in the place of the Rust's own crate root, so the modules below find each
 //! other by the paths that their text names; `skip` keeps the formatter off them.
 
+extern crate arm7tdmi;
 #[macro_use]
 extern crate bitfield;
 #[macro_use]
@@ -40,7 +41,6 @@ mod sysbus;
 
 mod stubs;
 
-use arm7tdmi;
 use stubs::{cartridge, iodev};
 use sysbus::SysBus;
 

@@ -6,7 +6,7 @@
 use std::process::ExitCode;
 use std::time::Instant;
 
-use ashlarkin_oracle::cases::{Alone, Case, Cases, Kept, Kind, reset_row, step};
+use ashlarkin_oracle::cases::{Alone, Case, Cases, Kind, Loaded, reset_row, step};
 use ashlarkin_oracle::{Answer, OUTPUT_LEN, Oracle};
 
 mod model;
@@ -35,7 +35,7 @@ fn run(case: &Case, mut draw: impl FnMut(usize, &mut [u8], &mut [u8]) -> Answer)
         .collect()
 }
 
-fn by_oracle(oracle: &mut Kept, case: &Case) -> Vec<Given> {
+fn by_oracle(oracle: &mut Loaded, case: &Case) -> Vec<Given> {
     run(case, |at, entries, output| oracle.draw(&case.draws[at], entries, output))
 }
 
@@ -59,7 +59,7 @@ fn difference(oracle: &[Given], model: &[Given]) -> Option<String> {
 
 /// Compares the cases of a seed; prints counts and speed. Whether there was no difference.
 fn compare(seed: u64, count: u64) -> bool {
-    let (mut cases, mut oracle) = (Cases::new(seed), Kept::default());
+    let (mut cases, mut oracle) = (Cases::new(seed), Loaded::default());
     let (mut draws, mut numbers, mut kinds) = (0u64, [0u64; 8], [0u64; 4]);
     let start = Instant::now();
     for index in 0..count {
@@ -91,7 +91,7 @@ fn compare(seed: u64, count: u64) -> bool {
 
 /// Compares draws of each kind of background alone.
 fn compare_alone(seed: u64, count: u64) -> bool {
-    let (mut cases, mut oracle) = (Cases::new(seed), Kept::default());
+    let (mut cases, mut oracle) = (Cases::new(seed), Loaded::default());
     for kind in Alone::ALL {
         for index in 0..count {
             let (draw, _) = cases.alone(index, kind);
@@ -137,7 +137,7 @@ fn compare_small(seed: u64, count: u64) -> bool {
 
 /// How many draws a second the oracle's side of a differential run makes, generation included.
 fn speed(seed: u64, count: u64) {
-    let (mut cases, mut oracle) = (Cases::new(seed), Kept::default());
+    let (mut cases, mut oracle) = (Cases::new(seed), Loaded::default());
     let (start, mut draws) = (Instant::now(), 0u64);
     for index in 0..count {
         draws += by_oracle(&mut oracle, &cases.case(index)).len() as u64;
@@ -150,7 +150,7 @@ fn speed(seed: u64, count: u64) {
 
 /// Whether every mutant is told from the oracle.
 fn mutants() -> bool {
-    let (mut cases, mut oracle, mut stepper) = (Cases::new(MUTANT_SEED), Kept::default(), Oracle::new());
+    let (mut cases, mut oracle, mut stepper) = (Cases::new(MUTANT_SEED), Loaded::default(), Oracle::new());
     let mut left: Vec<Mutant> = Mutant::ALL.to_vec();
     let mut latest = (0, None);
     for index in 0..MUTANT_CASES {
@@ -179,14 +179,40 @@ fn mutants() -> bool {
     left.is_empty()
 }
 
-fn option(name: &str, default: u64) -> u64 {
-    let words: Vec<String> = std::env::args().collect();
-    let at = words.iter().position(|word| word == name);
-    at.and_then(|at| words.get(at + 1)?.parse().ok()).unwrap_or(default)
+/// The seed and the count of cases, or the words that say neither.
+fn options(words: &[String]) -> Result<(u64, u64), String> {
+    let (mut seed, mut count) = (1, 100_000);
+    for option in words.chunks(2) {
+        let refused = || option.join(" ");
+        let [name, value] = option else { return Err(refused()) };
+        match (name.as_str(), value.parse().map_err(|_| refused())?) {
+            ("--seed", value) => seed = value,
+            ("--cases", value @ 1..) => count = value,
+            _ => return Err(refused()),
+        }
+    }
+    Ok((seed, count))
+}
+
+fn check_options() {
+    let of = |text: &str| options(&text.split_whitespace().map(str::to_owned).collect::<Vec<_>>());
+    assert_eq!((of(""), of("--cases 7 --seed 0")), (Ok((1, 100_000)), Ok((0, 7))));
+    for text in ["7", "--case 7", "--cases", "--cases x", "--cases 0", "--cases=7", "--seed -1", "--seed 1 more"] {
+        assert!(of(text).is_err(), "{text}");
+    }
 }
 
 fn main() -> ExitCode {
-    let (seed, count) = (option("--seed", 1), option("--cases", 100_000));
+    check_options();
+    let (seed, count) = match options(&std::env::args().skip(1).collect::<Vec<_>>()) {
+        Ok(found) => found,
+        Err(refused) => {
+            eprintln!(
+                "second_opinion: not understood: {refused}\nusage: second_opinion [--cases N] [--seed S], N from 1"
+            );
+            return ExitCode::from(2);
+        }
+    };
     let same = compare(seed, count) && compare_alone(seed, count / 5) && compare_small(seed, count);
     speed(seed, count.min(20_000));
     if same && mutants() { ExitCode::SUCCESS } else { ExitCode::FAILURE }

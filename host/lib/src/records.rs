@@ -5,6 +5,7 @@ use crate::{Input, Refusal, ffi, refusal};
 /// A background's numbers for rotation and scaling.
 #[repr(C)]
 #[derive(Clone, Copy, Debug, PartialEq, Eq, Hash, Default)]
+#[cfg_attr(feature = "serde", derive(serde::Deserialize, serde::Serialize), serde(deny_unknown_fields))]
 pub struct BgAffine {
     /// Added to x at each column.
     pub pa: i16,
@@ -27,6 +28,7 @@ pub struct BgAffine {
 /// An object entry. The default is the reset entry: colour 0x8000, priority 4, no marks.
 #[repr(C)]
 #[derive(Clone, Copy, Debug, PartialEq, Eq, Hash)]
+#[cfg_attr(feature = "serde", derive(serde::Deserialize, serde::Serialize), serde(deny_unknown_fields))]
 pub struct ObjBufferEntry {
     /// In the object window.
     pub window: bool,

@@ -1,6 +1,7 @@
 //! The forms over records: the byte forms' answers, each refusal without a change, and only the fields that are named.
 
 use ashlarkin::*;
+use ashlarkin_oracle::cases::Random;
 
 const MOST: i32 = (1 << 28) - 1;
 const LEAST: i32 = -(1 << 28);
@@ -149,11 +150,8 @@ fn forced_blank_leaves_every_record() {
 /// Sprites of noise, drawn by both forms on rows that say the same, line after line.
 #[test]
 fn records_are_drawn_as_bytes_are() {
-    let noise = |salt: u32| move |i: usize| (i as u32).wrapping_mul(2_654_435_761).wrapping_add(salt).to_le_bytes()[3];
-    let mut lent = Lent::new();
-    for (at, buffer) in lent.memory.iter_mut().take(3).enumerate() {
-        *buffer = (0..buffer.len()).map(noise(at as u32)).collect();
-    }
+    let (mut lent, mut random) = (Lent::new(), Random::new(1, 0));
+    lent.memory.iter_mut().take(3).for_each(|buffer| random.fill(buffer));
     lent.registers()[1] = 0x9f;
     let mut entries = bytes(&lent.row);
     let mut written = 0;

@@ -3,6 +3,7 @@
 use std::thread;
 
 use ashlarkin::*;
+use ashlarkin_oracle::cases::Random;
 
 /// A whole draw, with a pattern in the buffers that are written.
 #[derive(Clone)]
@@ -170,12 +171,11 @@ fn a_step_is_taken_whole_or_not_at_all() {
 
 #[test]
 fn threads_draw_at_the_same_time() {
-    let noise = |salt: u32| move |i: usize| (i as u32).wrapping_mul(2_654_435_761).wrapping_add(salt).to_le_bytes()[3];
+    let mut random = Random::new(1, 0);
+    let memories = [VRAM_LEN, PALETTE_LEN, OAM_LEN].map(|len| random.bytes(len));
     let line = |mode: u8, line: u32| {
         drawn(|lent| {
-            lent.vram = (0..VRAM_LEN).map(noise(1)).collect();
-            lent.palette = (0..PALETTE_LEN).map(noise(2)).collect();
-            lent.oam = (0..OAM_LEN).map(noise(3)).collect();
+            [lent.vram, lent.palette, lent.oam] = memories.clone();
             (lent.registers[0], lent.registers[1]) = (mode, 0x1f);
             lent.line = line;
         })

@@ -114,10 +114,10 @@ impl Scene {
         let matrix = [240_i16, 88, -88, 240];
         for (obj, place) in oam.chunks_exact_mut(8).enumerate() {
             let number = obj as u16;
-            let shown = LINE as u16 - 16 | if self.affine { 0x100 } else { 0 };
+            let shown = (LINE as u16 - 16) | if self.affine { 0x100 } else { 0 };
             put(place, 0, if obj < self.sprites { shown } else { 0x200 });
-            put(place, 2, 29 * number % 208 | 2 << 14);
-            put(place, 4, 16 * number % 1024 | number % 4 << 10 | number % 16 << 12);
+            put(place, 2, (29 * number % 208) | (2 << 14));
+            put(place, 4, (16 * number % 1024) | ((number % 4) << 10) | ((number % 16) << 12));
             put(place, 6, matrix[obj % 4] as u16);
         }
         oam

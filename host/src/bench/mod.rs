@@ -18,7 +18,7 @@ use crate::output;
 use growth::Series;
 use turn::{Row, Set, TURN_LINES, Turn, heading, median};
 
-const SCENE: &[u8] = include_bytes!("../../../samples/scene.state.png");
+const SCENE: &[u8] = include_bytes!("../../../samples/scene/capture.state.png");
 
 const SEED: u64 = 1;
 const MODES: u16 = 6;

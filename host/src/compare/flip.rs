@@ -51,7 +51,7 @@ impl Flip {
             }
             (Flipped::Entry, Work::Draws(_)) | (Flipped::Reset, Work::Reset(_)) => &mut last.entries,
             (Flipped::Pixel, Work::Draws(_)) => &mut last.output,
-            (Flipped::Step, Work::Step(..)) => &mut last.references,
+            (Flipped::Step, Work::Step { .. }) => &mut last.references,
             _ => return,
         };
         if let Some(byte) = buffer.last_mut() {

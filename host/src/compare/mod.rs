@@ -59,28 +59,22 @@ pub struct Plan {
     pub flip: Option<Flip>,
 }
 
-/// A difference, and what it takes to see it again.
-struct Difference {
-    kept: Kept,
-    text: String,
-}
-
 /// Compares the cases of a plan. The first difference is kept in a file.
 pub fn run(plan: &Plan, keep: &Path) -> Result<Exit> {
     // First of all, so that a run that ends badly can be had again.
     say(&format!("seed {}, {} cases", plan.seed, plan.cases))?;
     let start = Instant::now();
     let (tally, first) = search(plan);
-    if let Some(Difference { kept, text }) = first {
-        kept.write(keep, &text)?;
-        bail!("{text}; kept: see it again with `ashlarkin compare --replay {}`", keep.display());
+    if let Some(kept) = first {
+        kept.write(keep)?;
+        bail!("{}; kept: see it again with `ashlarkin compare --replay {}`", kept.difference, keep.display());
     }
     say(&tally.text(start.elapsed()))?;
     Ok(Exit::Done)
 }
 
 /// Compares on all cores. The difference given is that of the lowest case, whichever thread is first.
-fn search(plan: &Plan) -> (Tally, Option<Difference>) {
+fn search(plan: &Plan) -> (Tally, Option<Kept>) {
     let lowest = AtomicU64::new(u64::MAX);
     // Cases that share video memories stay together.
     let blocks = plan.cases.div_ceil(SCENE_CASES);
@@ -92,12 +86,12 @@ fn search(plan: &Plan) -> (Tally, Option<Difference>) {
         }
         let (tally, difference) = sides.block(plan, first..plan.cases.min(first + SCENE_CASES));
         if let Some(found) = &difference {
-            lowest.fetch_min(found.kept.index, Ordering::Relaxed);
+            lowest.fetch_min(found.case, Ordering::Relaxed);
         }
         (tally, difference)
     };
-    let join = |(tally, a): (Tally, Option<Difference>), (other, b): (Tally, Option<Difference>)| {
-        let first = [a, b].into_iter().flatten().min_by_key(|difference| difference.kept.index);
+    let join = |(tally, a): (Tally, Option<Kept>), (other, b): (Tally, Option<Kept>)| {
+        let first = [a, b].into_iter().flatten().min_by_key(|kept| kept.case);
         (tally.with(&other), first)
     };
     let bar = output::progress_bar(blocks);
@@ -119,7 +113,7 @@ impl Sides {
     }
 
     /// Compares cases up to the first difference.
-    fn block(&mut self, plan: &Plan, indexes: std::ops::Range<u64>) -> (Tally, Option<Difference>) {
+    fn block(&mut self, plan: &Plan, indexes: std::ops::Range<u64>) -> (Tally, Option<Kept>) {
         let mut tally = Tally::default();
         for index in indexes {
             for mut work in Work::of(&mut self.cases, plan.seed, index) {
@@ -129,9 +123,8 @@ impl Sides {
                 let (library, oracle) = both(&work, index, &mut self.oracle, plan.flip);
                 tally.count(&work, &oracle);
                 if let Some((at, parts)) = difference(&library, &oracle) {
-                    let text = place(plan.seed, index, &work, at, &parts);
-                    let kept = Kept { seed: plan.seed, index, work };
-                    return (tally, Some(Difference { kept, text }));
+                    let difference = place(plan.seed, index, &work, at, &parts);
+                    return (tally, Some(Kept { difference, seed: plan.seed, case: index, work }));
                 }
             }
         }
@@ -154,16 +147,16 @@ fn place(seed: u64, index: u64, work: &Work, at: usize, parts: &str) -> String {
 
 /// Runs a kept difference again and shows what each side gives.
 pub fn replay(path: &Path, flip: Option<Flip>) -> Result<Exit> {
-    let Kept { seed, index, work } = Kept::read(path)?;
-    let (library, oracle) = both(&work, index, &mut Oracle::default(), flip);
+    let Kept { seed, case, work, .. } = Kept::read(path)?;
+    let (library, oracle) = both(&work, case, &mut Oracle::default(), flip);
     for (at, (library, oracle)) in library.iter().zip(&oracle).enumerate() {
         let (ours, theirs) = (answer(&library.answer), answer(&oracle.answer));
         let verdict = if library == oracle { "the same bytes" } else { "another answer or other bytes" };
         say(&format!("{} {at}: library {ours}, oracle {theirs}: {verdict}", work.name()))?;
     }
     if let Some((at, parts)) = difference(&library, &oracle) {
-        bail!("{}: {}", path.display(), place(seed, index, &work, at, &parts));
+        bail!("{}: {}", path.display(), place(seed, case, &work, at, &parts));
     }
-    say(&format!("{}: seed {seed}, case {index}: no difference", path.display()))?;
+    say(&format!("{}: seed {seed}, case {case}: no difference", path.display()))?;
     Ok(Exit::Done)
 }

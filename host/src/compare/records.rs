@@ -2,10 +2,15 @@
 //! have. Pure in (seed, index), as cases are.
 
 use ashlarkin::{BgAffine, ObjBufferEntry, REFERENCES_LEN, WIDTH};
-use ashlarkin_oracle::cases::{Case, Cases, Kind};
+use ashlarkin_oracle::cases::{Case, Cases, Kind, Random};
+use serde::{Deserialize, Serialize};
+
+/// Streams of records stand apart from those of the bytes that they are made of.
+const APART: u64 = 0x4ec0_4d50;
 
 /// Draws over a row of records; the case's own entries are empty.
-#[derive(Clone)]
+#[derive(Clone, Deserialize, Serialize)]
+#[serde(deny_unknown_fields)]
 pub struct RecordCase {
     pub case: Case,
     pub row: Vec<ObjBufferEntry>,
@@ -22,32 +27,31 @@ impl RecordCase {
     pub fn of(cases: &mut Cases, seed: u64, index: u64, case: &Case) -> Vec<RecordCase> {
         let mut all = vec![RecordCase::new(case)];
         if case.kind == Kind::Faulty {
-            let (turn, noise) = (index / 8, &mut Noise::new(seed, index));
+            let (turn, random) = (index / 8, &mut Random::new(seed ^ APART, index));
             if turn % 2 == 1 {
-                all[0].damage(noise);
+                all[0].damage(random);
             }
             // Of the accepted cases before it, by turns one under H and one under R.
             let mut alone = RecordCase::new(&cases.case(index - 1 - 2 * (turn % 2)));
             alone.case.kind = Kind::Faulty;
-            alone.damage(noise);
+            alone.damage(random);
             all.push(alone);
         }
         all
     }
 
     /// Another count of records, or a priority that no byte holds.
-    fn damage(&mut self, noise: &mut Noise) {
-        let at = [0, 1, 119, 238, 239, noise.below(WIDTH)][noise.below(6)];
-        let any = 256 + noise.below(0xff00) as u16;
-        let fault = noise.below(8);
-        match (fault, self.row.get_mut(at)) {
+    fn damage(&mut self, random: &mut Random) {
+        let (any_column, any) = (random.below(WIDTH as u32), random.range(256, 0xffff) as u16);
+        let column = random.pick(&[0, 1, 119, 238, 239, any_column]);
+        match (random.below(8), self.row.get_mut(column as usize)) {
             (0, _) => self.row.clear(),
             (1, _) => self.row.resize(WIDTH - 1, ObjBufferEntry::default()),
             (2, _) => self.row.resize(WIDTH + 1, ObjBufferEntry::default()),
             (_, None) => {}
             // Its low byte is the one that would do.
             (3 | 4, Some(record)) => record.priority += 256,
-            (_, Some(record)) => record.priority = [256, 260, 0xffff, any][noise.below(4)],
+            (_, Some(record)) => record.priority = random.pick(&[256, 260, 0xffff, any]),
         }
     }
 }
@@ -58,14 +62,14 @@ pub fn backgrounds(seed: u64, index: u64, steps: [i16; 4], references: &[u8]) ->
     let mut bytes = references.to_vec();
     bytes.resize(REFERENCES_LEN, 0);
     let points = numbers(&bytes);
-    let noise = &mut Noise::new(!seed, index);
+    let random = &mut Random::new(!seed ^ APART, index);
     std::array::from_fn(|at| BgAffine {
-        pa: noise.next() as i16,
+        pa: random.word() as i16,
         pb: steps[2 * at],
-        pc: noise.next() as i16,
+        pc: random.word() as i16,
         pd: steps[2 * at + 1],
-        x: noise.next() as i32,
-        y: noise.next() as i32,
+        x: random.signed(),
+        y: random.signed(),
         internal_x: points[2 * at],
         internal_y: points[2 * at + 1],
     })
@@ -91,26 +95,6 @@ pub fn bytes_of(record: &ObjBufferEntry) -> [u8; 4] {
     let [low, high] = record.color.to_le_bytes();
     let marks = u8::from(record.alpha) | u8::from(record.window) << 1;
     [low, high, u8::try_from(record.priority).unwrap_or(255), marks]
-}
-
-/// SplitMix64.
-struct Noise(u64);
-
-impl Noise {
-    fn new(seed: u64, index: u64) -> Noise {
-        Noise(Noise(seed).next() ^ index.wrapping_mul(0x9e37_79b9_7f4a_7c15))
-    }
-
-    fn next(&mut self) -> u64 {
-        self.0 = self.0.wrapping_add(0x9e37_79b9_7f4a_7c15);
-        let word = (self.0 ^ self.0 >> 30).wrapping_mul(0xbf58_476d_1ce4_e5b9);
-        let word = (word ^ word >> 27).wrapping_mul(0x94d0_49bb_1331_11eb);
-        word ^ word >> 31
-    }
-
-    fn below(&mut self, n: usize) -> usize {
-        (self.next() % n as u64) as usize
-    }
 }
 
 #[cfg(test)]

@@ -34,7 +34,7 @@ impl Tally {
     pub fn count(&mut self, work: &Work, given: &[Given]) {
         let numbers = match work {
             Work::Draws(_) => &mut self.draws,
-            Work::Step(..) => &mut self.steps,
+            Work::Step { .. } => &mut self.steps,
             Work::Reset(_) => &mut self.resets,
             Work::RecordDraws(_) => &mut self.record_draws,
             Work::RecordStep(_) => &mut self.record_steps,

@@ -2,18 +2,25 @@
 
 use ashlarkin::{BgAffine, ENTRIES_LEN, Input, OUTPUT_LEN, ObjBufferEntry};
 use ashlarkin_oracle::Answer;
-use ashlarkin_oracle::cases::{self, Case, Cases, Draw, Kept};
+use ashlarkin_oracle::cases::{self, Case, Cases, Draw, Loaded};
+use serde::{Deserialize, Serialize};
 
 use super::records::{self, RecordCase};
 
 /// One piece of work of a case.
+#[derive(Deserialize, Serialize)]
+#[serde(rename_all = "kebab-case", deny_unknown_fields)]
 pub enum Work {
     /// Draws on one row, one after another.
     Draws(Case),
     /// A line-end step: pb2, pd2, pb3, pd3, and the references' bytes.
-    Step([i16; 4], Vec<u8>),
+    Step {
+        steps: [i16; 4],
+        #[serde(with = "hex")]
+        references: Vec<u8>,
+    },
     /// A reset of a row.
-    Reset(Vec<u8>),
+    Reset(#[serde(with = "hex")] Vec<u8>),
     /// Draws on one row of records, one after another.
     RecordDraws(RecordCase),
     /// A line-end step on records.
@@ -52,7 +59,7 @@ pub struct Library;
 /// The emulator's Rust.
 #[derive(Default)]
 pub struct Oracle {
-    draws: Kept,
+    draws: Loaded,
     others: ashlarkin_oracle::Oracle,
 }
 
@@ -132,7 +139,7 @@ impl Work {
         let row = vec![0x5a; (index % (ENTRIES_LEN as u64 + 41)) as usize];
         let on_records = RecordCase::of(cases, seed, index, &case).into_iter().map(Work::RecordDraws);
         let stepped = Work::RecordStep(records::backgrounds(seed, index, steps, &references));
-        let on_bytes = [Work::Draws(case), Work::Step(steps, references), Work::Reset(row)];
+        let on_bytes = [Work::Draws(case), Work::Step { steps, references }, Work::Reset(row)];
         on_bytes.into_iter().chain(on_records).chain([stepped]).collect()
     }
 
@@ -148,7 +155,7 @@ impl Work {
     pub fn run(&self, side: &mut dyn Side) -> Vec<Given> {
         match self {
             Work::Draws(case) => run_draws(case, side),
-            Work::Step(steps, references) => {
+            Work::Step { steps, references } => {
                 let mut references = references.clone();
                 let answer = side.step(*steps, &mut references);
                 vec![Given { references, ..Given::new(answer) }]
@@ -178,7 +185,7 @@ impl Work {
     pub fn name(&self) -> &'static str {
         match self {
             Work::Draws(_) => "draw",
-            Work::Step(..) => "step",
+            Work::Step { .. } => "step",
             Work::Reset(_) => "reset",
             Work::RecordDraws(_) => "draw on records",
             Work::RecordStep(_) => "step on records",

@@ -1,7 +1,7 @@
 //! Generated draws for differential runs. A case is a pure function of (seed, index), so that a number names it.
 
 mod faults;
-mod kept;
+mod loaded;
 mod random;
 mod registers;
 mod scene;
@@ -9,13 +9,15 @@ mod sprites;
 
 use std::sync::Arc;
 
+use serde::{Deserialize, Deserializer, Serialize};
+
 use crate::input::*;
-pub use kept::Kept;
-use random::Random;
+pub use loaded::Loaded;
+pub use random::{Random, fresh_seed};
 use scene::Scene;
 
 /// What a case is for; its index decides.
-#[derive(Clone, Copy, Debug, PartialEq, Eq)]
+#[derive(Clone, Copy, Debug, PartialEq, Eq, Deserialize, Serialize)]
 pub enum Kind {
     /// Accepted under reading R.
     AcceptedR,
@@ -65,17 +67,26 @@ impl Alone {
 }
 
 /// One draw of a case, with buffers of its own but for video memory, which neighbours share.
-#[derive(Clone)]
+#[derive(Clone, Deserialize, Serialize)]
+#[serde(deny_unknown_fields)]
 pub struct Draw {
     pub reading: u32,
     pub line: u32,
     pub references: [i32; 4],
+    #[serde(serialize_with = "hex::serialize", deserialize_with = "shared")]
     pub vram: Arc<[u8]>,
     /// How much of `vram` is lent: 131,072, or another length as a fault.
     pub vram_len: usize,
+    #[serde(with = "hex")]
     pub palette: Vec<u8>,
+    #[serde(with = "hex")]
     pub oam: Vec<u8>,
+    #[serde(with = "hex")]
     pub registers: Vec<u8>,
+}
+
+fn shared<'de, D: Deserializer<'de>>(text: D) -> Result<Arc<[u8]>, D::Error> {
+    hex::deserialize(text).map(|bytes: Vec<u8>| bytes.into())
 }
 
 impl Draw {
@@ -93,12 +104,15 @@ impl Draw {
 }
 
 /// Draws on one row, and the row and the output before the first.
-#[derive(Clone)]
+#[derive(Clone, Deserialize, Serialize)]
+#[serde(deny_unknown_fields)]
 pub struct Case {
     pub kind: Kind,
-    pub draws: Vec<Draw>,
+    #[serde(with = "hex")]
     pub entries: Vec<u8>,
+    #[serde(with = "hex")]
     pub output: Vec<u8>,
+    pub draws: Vec<Draw>,
 }
 
 /// How many cases in a row share their video memories, so that a run need not fill 128 KiB for each.
@@ -155,7 +169,7 @@ impl Cases {
         let random = &mut Random::new(self.seed ^ 0xa10e, index);
         let mut draw = self.accepted(random, 0);
         let (mode, bg) = random.pick(kind.places());
-        let dispcnt = mode | 0x10 * random.below(2) as u16 | 0x100 << bg;
+        let dispcnt = mode | (0x10 * random.below(2) as u16) | (0x100 << bg);
         draw.registers[0..2].copy_from_slice(&dispcnt.to_le_bytes());
         draw.registers[0x50..0x52].fill(0);
         (draw, bg)

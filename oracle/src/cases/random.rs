@@ -1,8 +1,16 @@
-//! Random numbers of a case: ChaCha's stream, whose values are fixed by its definition, with ranges taken from it here,
-//! so that a case number means the same with any version of the libraries.
+//! Random numbers, all of them: ChaCha's stream, whose values are fixed by its definition, with ranges taken from it
+//! here, so that a case number means the same with any version of the libraries.
+
+use std::time::SystemTime;
 
 use rand_chacha::ChaCha8Rng;
 use rand_core::{RngCore, SeedableRng};
+
+/// Another seed for each run, short enough to be typed.
+pub fn fresh_seed() -> u64 {
+    let now = SystemTime::now().duration_since(SystemTime::UNIX_EPOCH);
+    now.map_or(0, |now| now.as_micros() as u64 % 1_000_000_000)
+}
 
 pub struct Random(ChaCha8Rng);
 

@@ -1,4 +1,4 @@
-//! The oracle over cases, with video memory kept between draws that share it.
+//! The oracle over cases: video memory stays loaded between draws that share it.
 
 use std::sync::Arc;
 
@@ -6,14 +6,14 @@ use super::Draw;
 use crate::draw::{Answer, Oracle};
 use crate::judge::judge_draw;
 
-/// An oracle, and the video memory that it has loaded.
+/// An oracle, and the video memory that is loaded into it, if it is known.
 #[derive(Default)]
-pub struct Kept {
+pub struct Loaded {
     oracle: Oracle,
     vram: Option<Arc<[u8]>>,
 }
 
-impl Kept {
+impl Loaded {
     /// The same as `Oracle::draw` on the draw's input.
     pub fn draw(&mut self, draw: &Draw, entries: &mut [u8], output: &mut [u8]) -> Answer {
         let input = draw.input();
