@@ -109,7 +109,17 @@ fn unreadable(error: io::Error, expected: &str, way_out: &str) -> anyhow::Error 
     anyhow!("can't be read: {error}, expected {expected}; {way_out}")
 }
 
+/// A folder that has one of the four files is a capture, whole or not.
+pub fn is_capture(folder: &Path) -> bool {
+    PARTS.iter().any(|part| folder.join(part).symlink_metadata().is_ok())
+}
+
 fn read_folder(folder: &Path) -> Result<Capture> {
+    if !is_capture(folder) {
+        let (last, first) = PARTS.split_last().expect("there are four");
+        let none = format!("folder with none of {} and {last}", first.join(", "));
+        bail!("{}: {none}, expected a capture; `batch` draws those below a folder", folder.display());
+    }
     let mut vram = read_part(folder, VRAM)?;
     vram.resize(VRAM_LEN, 0);
     Ok(Capture {

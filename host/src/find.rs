@@ -8,7 +8,7 @@ use std::path::{Component, Path, PathBuf};
 use anyhow::anyhow;
 use walkdir::{DirEntry, WalkDir};
 
-use crate::capture::{PARTS, is_state, named_as_state};
+use crate::capture::{PARTS, is_capture, is_state, named_as_state};
 
 /// A capture, or something that says it is one, and the path of its frame below the folder of frames.
 pub struct Found {
@@ -46,11 +46,6 @@ pub fn captures(folder: &Path, out: &Path) -> Tree {
         }
     }
     walk.tree
-}
-
-/// A folder that has one of the four files is a capture, whole or not.
-fn is_capture(folder: &Path) -> bool {
-    PARTS.iter().any(|part| folder.join(part).symlink_metadata().is_ok())
 }
 
 struct Walk<'a> {

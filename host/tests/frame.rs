@@ -258,6 +258,9 @@ fn what_is_no_capture_is_refused() {
     refused(&missing, &folder, &missing, &["No such file", "expected a folder with vram.bin"], &[]);
     let directory = folder.join("folder.ss0");
     fs::create_dir(&directory).unwrap();
+    let none = "folder with none of vram.bin, palette.bin, oam.bin and registers.bin";
+    refused(&directory, &folder, &directory, &[none, "`batch` draws those below a folder"], &[]);
+    fs::write(directory.join("oam.bin"), [0; 1024]).unwrap();
     refused(&directory, &folder, &directory.join("vram.bin"), &["131072 or 98304"], &[]);
     let endless = Path::new("/dev/zero");
     refused(endless, &folder, endless, &["starts with 0x00000000"], &[]);
