@@ -15,13 +15,13 @@ use Rattle.memory.specs.declared.PixelFormat.the-variants.{BPP8}
 use Rattle.regs.specs.Background.{BgControlOf, charBlock, screenBlock}
 use Rattle.regs.specs.declared.BgControl.{BgControl}
 use Rattle.bg_regular.specs.Regular.{tileColor}
-use Rattle.bg_points.specs.Code.{coordinate, Side}
+use Rattle.bg_points.specs.Code.{coordinate}
 use Rattle.bg_points.specs.Point.{transformBgPoint, pointColor}
 use Rattle.bg_points.specs.declared.ViewPort.{ViewPort}
 use Rattle.bg_points.proofs.Points.{point-is}
 use Rattle.bg.specs.Bitmap.{BitmapViewPort, bitmapStart, bitmapPixel, bitmapColor}
 use Rattle.bg.specs.Affine.{affineSide, affineTile, affinePixel, affineBgColor}
-use Rattle.bg.specs.Code.{LiftedOf}
+use Rattle.bg.specs.Code.{LiftedOf, BitmapSides}
 use Rattle.bg.specs.declared.steps.BgAffine.{BgAffine}
 use Rattle.bg.specs.declared.steps.Lifted.{Lifted}
 
@@ -44,14 +44,15 @@ tileRow-bound side y side≤ y< =
     let down : y / 8 ≤ 127 = omega arith in
     mul-le-mul across down
 
--- What a bitmap is drawn with has sides that divide the bias, and none longer than the screen's.
-sides : (t : Bool) → (cond t 160 240 ≤ 240) × Side (cond t 160 240) × (cond t 128 160 ≤ 160) × Side (cond t 128 160)
-sides true = (omega arith, (omega arith, refl), omega arith, (omega arith, refl))
-sides false = (omega arith, (omega arith, refl), omega arith, (omega arith, refl))
-
-pub bitmapViewPort-sides : {mode : ℕ} {wraparound : Bool} {v : ViewPort} → BitmapViewPort mode wraparound v →
-    (v .w ≤ 240) × Side (v .w) × (v .h ≤ 160) × Side (v .h)
-bitmapViewPort-sides {mode} e = rw (e .w-is, e .h-is) (sides (eqb mode 5))
+-- What a bitmap is drawn with, by its mode.
+pub bitmapViewPort-sides : {mode : ℕ} {wraparound : Bool} {v : ViewPort} → BitmapViewPort mode wraparound v → BitmapSides v
+bitmapViewPort-sides {mode} {v = v} e = go (eqb mode 5) (e .w-is) (e .h-is)
+  where
+    go : (t : Bool) → v .w ≡ cond t 160 240 → v .h ≡ cond t 128 160 → BitmapSides v
+    go true w-is h-is =
+        record { w≤ = omega arith; w-side = rw w-is (omega arith, refl); h≤ = omega arith; h-side = rw h-is (omega arith, refl) }
+    go false w-is h-is =
+        record { w≤ = omega arith; w-side = rw w-is (omega arith, refl); h≤ = omega arith; h-side = rw h-is (omega arith, refl) }
 
 -- ---- an affine background's pixel
 

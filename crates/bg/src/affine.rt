@@ -7,17 +7,22 @@ ghost use Rattle.memory.specs.Code.{Lent};
 ghost use Rattle.bg_points.specs.Code.{coordinate, Side};
 ghost use Rattle.bg_points.specs.Point.{pointColor};
 ghost use Rattle.bg.specs.Affine.{affineSide, affinePixel, affineBgColor};
-ghost use Rattle.bg.specs.Code.{Liftable};
+ghost use Rattle.bg.specs.Code.{Liftable, AffineBases, AffinePlace, AffineViewPort};
 use crate::steps::BgAffine;
 use bg_points::ViewPort;
 use bg_points::rem_euclid;
 use bg_points::transform_bg_point;
 use memory::DISPLAY_WIDTH;
 use memory::PixelFormat;
+use memory::TILE_SIZE;
 use memory::read_8;
 use regs::BgControl;
 use rgb15::Rgb15;
+use tiles::TILE_SIDE;
 use tiles::tile_color;
+
+// Bytes of a tile of 256 colours.
+const TILE_SIZE_BPP8: usize = 2 * TILE_SIZE;
 
 // The side of an affine background.
 fn texture_size(size: u8) -> u32
@@ -37,17 +42,20 @@ fn aff_bg_pixel(
     x: usize,
     y: usize,
 ) -> Rgb15
-    requires { ⌜ Lent (now vram) (now palette) × («screen_block» ≤ 0xf800) × («char_block» ≤ 0xc000) × (side ≤ 1024) × (x < side) × (y < side) ⌝ }
+    requires { ⌜ AffineBases (now vram) (now palette) «screen_block» «char_block» × AffinePlace side x y ⌝ }
     ensures { λ c. ⌜ c .0 ≡ affinePixel (now (vram .entry)) (now (palette .entry)) «screen_block» «char_block» side x y ⌝ }
 {
-    let tile_index = read_8(vram, screen_block + x / 8 + side / 8 * (y / 8));
+    let tile_index = read_8(
+        vram,
+        screen_block + x / TILE_SIDE + side / TILE_SIDE * (y / TILE_SIDE),
+    );
     tile_color(
         vram,
         palette,
         0,
-        char_block + 0x40 * tile_index,
-        x % 8,
-        y % 8,
+        char_block + TILE_SIZE_BPP8 * tile_index,
+        x % TILE_SIDE,
+        y % TILE_SIDE,
         PixelFormat::BPP8,
         0,
     )
@@ -63,8 +71,7 @@ fn aff_bg_color(
     x: u32,
     y: u32,
 ) -> Rgb15
-    requires { ⌜ Lent (now vram) (now palette) × («screen_block» ≤ 0xf800) × («char_block» ≤ 0xc000)
-        × (viewport .h ≡ viewport .w) × (viewport .w ≤ 1024) × Side (viewport .w) × Side (viewport .h) ⌝ }
+    requires { ⌜ AffineBases (now vram) (now palette) «screen_block» «char_block» × AffineViewPort viewport ⌝ }
     ensures { λ c. ⌜ c .0 ≡ pointColor (viewport .wraparound) (viewport .w) (viewport .h)
         (affinePixel (now (vram .entry)) (now (palette .entry)) «screen_block» «char_block» (viewport .w)) (coordinate x) (coordinate y) ⌝ }
 {

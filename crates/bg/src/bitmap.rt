@@ -3,15 +3,15 @@ ghost use mathlib.Core.Path.{_≡_};
 ghost use Prim.Native.Nat.{_+_, _*_, _≤_, _<_};
 ghost use Rattle.rgb15.specs.Colour.{rgb};
 ghost use Rattle.rows.specs.Tab.{tab};
-ghost use Rattle.memory.specs.Code.{Lent};
-ghost use Rattle.bg_points.specs.Code.{coordinate, Side};
+ghost use Rattle.bg_points.specs.Code.{coordinate};
 ghost use Rattle.bg_points.specs.Point.{pointColor};
 ghost use Rattle.bg.specs.Bitmap.{BitmapViewPort, bitmapStart, bitmapPixel, bitmapColor};
-ghost use Rattle.bg.specs.Code.{Liftable};
+ghost use Rattle.bg.specs.Code.{BitmapLine, BitmapPage, BitmapPlace, BitmapSides};
 use crate::steps::BgAffine;
 use bg_points::ViewPort;
 use bg_points::rem_euclid;
 use bg_points::transform_bg_point;
+use memory::DISPLAY_HEIGHT;
 use memory::DISPLAY_WIDTH;
 use memory::get_palette_color;
 use memory::read_8;
@@ -19,20 +19,32 @@ use memory::read_16;
 use regs::BgControl;
 use rgb15::Rgb15;
 
+// The size of a picture in mode 5, and in modes 3 and 4.
+const MODE5_WIDTH: u32 = 160;
+
+const MODE5_HEIGHT: u32 = 128;
+
+const SCREEN_WIDTH: u32 = DISPLAY_WIDTH as u32;
+
+const SCREEN_HEIGHT: u32 = DISPLAY_HEIGHT as u32;
+
+// How far apart the frames of modes 4 and 5 lie.
+const PAGE_SIZE: usize = 0xa000;
+
 // The size of a mode's picture.
 fn bitmap_viewport(mode: u16, wraparound: bool) -> ViewPort
     ensures { λ v. ⌜ BitmapViewPort mode wraparound v ⌝ }
 {
     if mode == 5 {
         ViewPort {
-            w: 160,
-            h: 128,
+            w: MODE5_WIDTH,
+            h: MODE5_HEIGHT,
             wraparound,
         }
     } else {
         ViewPort {
-            w: 240,
-            h: 160,
+            w: SCREEN_WIDTH,
+            h: SCREEN_HEIGHT,
             wraparound,
         }
     }
@@ -46,7 +58,7 @@ fn page_ofs(mode: u16, frame: u16) -> usize
     if mode == 3 {
         0
     } else {
-        frame as usize * 0xa000
+        frame as usize * PAGE_SIZE
     }
 }
 
@@ -60,7 +72,7 @@ fn bitmap_pixel(
     x: usize,
     y: usize,
 ) -> Rgb15
-    requires { ⌜ Lent (now vram) (now palette) × (page ≤ 0xa000) × (w ≤ 240) × (x < w) × (y < 160) ⌝ }
+    requires { ⌜ BitmapPage (now vram) (now palette) page × BitmapPlace w x y ⌝ }
     ensures { λ c. ⌜ c .0 ≡ bitmapPixel (now (vram .entry)) (now (palette .entry)) mode page w x y ⌝ }
 {
     let index = x + w * y;
@@ -81,8 +93,7 @@ fn bitmap_color(
     x: u32,
     y: u32,
 ) -> Rgb15
-    requires { ⌜ Lent (now vram) (now palette) × (page ≤ 0xa000)
-        × (viewport .w ≤ 240) × Side (viewport .w) × (viewport .h ≤ 160) × Side (viewport .h) ⌝ }
+    requires { ⌜ BitmapPage (now vram) (now palette) page × BitmapSides viewport ⌝ }
     ensures { λ c. ⌜ c .0 ≡ pointColor (viewport .wraparound) (viewport .w) (viewport .h)
         (bitmapPixel (now (vram .entry)) (now (palette .entry)) mode page (viewport .w)) (coordinate x) (coordinate y) ⌝ }
 {
@@ -103,7 +114,7 @@ pub fn render_bitmap(
     control: u16,
     affine: BgAffine,
 ) -> [Rgb15; DISPLAY_WIDTH]
-    requires { ⌜ Lent (now vram) (now palette) × (frame < 2) × Liftable affine ⌝ }
+    requires { ⌜ BitmapLine (now vram) (now palette) frame affine ⌝ }
     ensures { λ r. ⌜ r ≡ tab (λ column. rgb (bitmapColor (now (vram .entry)) (now (palette .entry)) mode frame control
         (affine .x) (affine .y) (affine .pa) (affine .pc) column)) 240 ⌝ }
 {

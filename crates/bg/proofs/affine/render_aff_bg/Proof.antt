@@ -1,11 +1,11 @@
 -- bg::affine::render_aff_bg meets its contract: a turn sets one column, at the point that its lifted numbers give.
 -- Assumes nothing.
 use Prim.Native.Nat.{_-_}
+use native.Mathlib.Omega.{arith}
 use borrow.Author.Needs.{needs}
 use lib.ListN.{length-replicate}
 use Rattle.rgb15.specs.Colour.{rgb, transparent}
 use Rattle.rows.proofs.Tabbed.{Tabbed, tabbed-none, tabbed-all}
-use Rattle.rows.proofs.Columns.{column-fits, halves-fit, next-fits, fewer-left}
 use Rattle.bg_regular.proofs.Lines.{colored-more}
 use Rattle.bg.specs.Affine.{affineBgColor}
 use Rattle.bg.specs.Code.{LiftedOf}
@@ -23,8 +23,8 @@ Inv-loop vram palette control side viewport screen-block char-block lifted bg-li
 abbrev μ-loop : tie.MeasureT-loop
 μ-loop vram palette control side viewport screen-block char-block lifted bg-line₀ screen-x₀ bg-line screen-x = 240 - screen-x
 
-loop-again : tie.Need-loop-again Inv-loop μ-loop
-loop-again c =
+next-column : tie.Need-loop-again Inv-loop μ-loop
+next-column c =
     let y = c .before in
     let x = y .before in
     let loop = x .before .before in
@@ -52,14 +52,14 @@ render-aff-bg-spec =
     (search needs)
     (λ c κs. search needs)
     (λ c a lifted. tabbed-none (length-replicate 240 (rgb transparent)))
-    (λ c. column-fits (c .loop-test .taken))
+    (λ c. omega arith)
     (search needs)
-    (λ c. column-fits (c .before .loop-test .taken))
+    (λ c. omega arith)
     (search needs)
     (search needs)
-    (λ c. halves-fit (c .before .before .before .loop-test .taken))
-    (λ c. c .before .before .before .loop-test .taken)
-    (λ c. next-fits (c .before .before .before .loop-test .taken))
-    (λ c. fewer-left (c .before .before .before .loop-test .taken))
-    loop-again
+    (λ c. omega arith)
+    (λ c. omega arith)
+    (λ c. omega arith)
+    (λ c. omega arith)
+    next-column
     returns)

@@ -1,11 +1,11 @@
 -- bg::bitmap::render_bitmap meets its contract: a turn sets one column, at the point that its lifted numbers give.
 -- Assumes nothing.
 use Prim.Native.Nat.{_-_}
+use native.Mathlib.Omega.{arith}
 use borrow.Author.Needs.{needs}
 use lib.ListN.{length-replicate}
 use Rattle.rgb15.specs.Colour.{rgb, transparent}
 use Rattle.rows.proofs.Tabbed.{Tabbed, tabbed-none, tabbed-all}
-use Rattle.rows.proofs.Columns.{column-fits, halves-fit, next-fits, fewer-left}
 use Rattle.bg_regular.proofs.Lines.{colored-more}
 use Rattle.bg.specs.Bitmap.{bitmapColor}
 use Rattle.bg.specs.Code.{LiftedOf}
@@ -25,12 +25,12 @@ abbrev μ-loop : tie.MeasureT-loop
 
 in-bitmap : tie.Need-bitmap-color-requires Inv-loop μ-loop
 in-bitmap c κs =
-    let page = c .before .before .before .before .before in
-    let sides = bitmapViewPort-sides (page .before .bitmap-viewport .ensures) in
+    let lifted = c .before .before .before .before in
+    let sides = bitmapViewPort-sides (lifted .before .before .bitmap-viewport .ensures) in
     search needs
 
-loop-again : tie.Need-loop-again Inv-loop μ-loop
-loop-again c =
+next-column : tie.Need-loop-again Inv-loop μ-loop
+next-column c =
     let y = c .before in
     let x = y .before in
     let loop = x .before .before in
@@ -56,14 +56,14 @@ render-bitmap-spec =
     (search needs)
     (λ c κs. search needs)
     (λ c a lifted. tabbed-none (length-replicate 240 (rgb transparent)))
-    (λ c. column-fits (c .loop-test .taken))
+    (λ c. omega arith)
     (search needs)
-    (λ c. column-fits (c .before .loop-test .taken))
+    (λ c. omega arith)
     (search needs)
     in-bitmap
-    (λ c. halves-fit (c .before .before .before .loop-test .taken))
-    (λ c. c .before .before .before .loop-test .taken)
-    (λ c. next-fits (c .before .before .before .loop-test .taken))
-    (λ c. fewer-left (c .before .before .before .loop-test .taken))
-    loop-again
+    (λ c. omega arith)
+    (λ c. omega arith)
+    (λ c. omega arith)
+    (λ c. omega arith)
+    next-column
     returns)
