@@ -1,25 +1,28 @@
 // Affine backgrounds, of modes 1 and 2 (gpu/render/text.rs).
 ghost use mathlib.Core.Path.{_≡_};
-ghost use mathlib.Core.Bool.{true};
 ghost use Prim.Native.Nat.{_≤_, _<_};
 ghost use Rattle.rgb15.specs.Colour.{rgb};
-ghost use Rattle.signed.specs.Signed.{inRange};
 ghost use Rattle.rows.specs.Tab.{tab};
 ghost use Rattle.memory.specs.Code.{Lent};
 ghost use Rattle.bg_points.specs.Code.{coordinate, Side};
 ghost use Rattle.bg_points.specs.Point.{pointColor};
 ghost use Rattle.bg.specs.Affine.{affineSide, affinePixel, affineBgColor};
+ghost use Rattle.bg.specs.Code.{Liftable, AffineBases, AffinePlace, AffineViewPort};
+use crate::steps::BgAffine;
 use bg_points::ViewPort;
 use bg_points::rem_euclid;
 use bg_points::transform_bg_point;
 use memory::DISPLAY_WIDTH;
 use memory::PixelFormat;
+use memory::TILE_SIZE;
 use memory::read_8;
 use regs::BgControl;
 use rgb15::Rgb15;
-use signed::lift_half;
-use signed::lift_i32;
+use tiles::TILE_SIDE;
 use tiles::tile_color;
+
+// Bytes of a tile of 256 colours.
+const TILE_SIZE_BPP8: usize = 2 * TILE_SIZE;
 
 // The side of an affine background.
 fn texture_size(size: u8) -> u32
@@ -39,17 +42,20 @@ fn aff_bg_pixel(
     x: usize,
     y: usize,
 ) -> Rgb15
-    requires { ⌜ Lent (now vram) (now palette) × («screen_block» ≤ 0xf800) × («char_block» ≤ 0xc000) × (side ≤ 1024) × (x < side) × (y < side) ⌝ }
+    requires { ⌜ AffineBases (now vram) (now palette) «screen_block» «char_block» × AffinePlace side x y ⌝ }
     ensures { λ c. ⌜ c .0 ≡ affinePixel (now (vram .entry)) (now (palette .entry)) «screen_block» «char_block» side x y ⌝ }
 {
-    let tile_index = read_8(vram, screen_block + x / 8 + side / 8 * (y / 8));
+    let tile_index = read_8(
+        vram,
+        screen_block + x / TILE_SIDE + side / TILE_SIDE * (y / TILE_SIDE),
+    );
     tile_color(
         vram,
         palette,
         0,
-        char_block + 0x40 * tile_index,
-        x % 8,
-        y % 8,
+        char_block + TILE_SIZE_BPP8 * tile_index,
+        x % TILE_SIDE,
+        y % TILE_SIDE,
         PixelFormat::BPP8,
         0,
     )
@@ -65,8 +71,7 @@ fn aff_bg_color(
     x: u32,
     y: u32,
 ) -> Rgb15
-    requires { ⌜ Lent (now vram) (now palette) × («screen_block» ≤ 0xf800) × («char_block» ≤ 0xc000)
-        × (viewport .h ≡ viewport .w) × (viewport .w ≤ 1024) × Side (viewport .w) × Side (viewport .h) ⌝ }
+    requires { ⌜ AffineBases (now vram) (now palette) «screen_block» «char_block» × AffineViewPort viewport ⌝ }
     ensures { λ c. ⌜ c .0 ≡ pointColor (viewport .wraparound) (viewport .w) (viewport .h)
         (affinePixel (now (vram .entry)) (now (palette .entry)) «screen_block» «char_block» (viewport .w)) (coordinate x) (coordinate y) ⌝ }
 {
@@ -91,13 +96,11 @@ pub fn render_aff_bg(
     vram: &[u8],
     palette: &[u8],
     control: u16,
-    ref_x: i32,
-    ref_y: i32,
-    pa: u16,
-    pc: u16,
-) -> [Rgb15; 240]
-    requires { ⌜ Lent (now vram) (now palette) × (inRange «ref_x» ≡ true) × (inRange «ref_y» ≡ true) ⌝ }
-    ensures { λ r. ⌜ r ≡ tab (λ column. rgb (affineBgColor (now (vram .entry)) (now (palette .entry)) control «ref_x» «ref_y» pa pc column)) 240 ⌝ }
+    affine: BgAffine,
+) -> [Rgb15; DISPLAY_WIDTH]
+    requires { ⌜ Lent (now vram) (now palette) × Liftable affine ⌝ }
+    ensures { λ r. ⌜ r ≡ tab (λ column. rgb (affineBgColor (now (vram .entry)) (now (palette .entry)) control
+        (affine .x) (affine .y) (affine .pa) (affine .pc) column)) 240 ⌝ }
 {
     let bgcnt = BgControl::from(control);
     let side = texture_size(bgcnt.size);
@@ -108,15 +111,12 @@ pub fn render_aff_bg(
     };
     let screen_block = bgcnt.screen_block();
     let char_block = bgcnt.char_block();
-    let rx = lift_i32(ref_x);
-    let ry = lift_i32(ref_y);
-    let dx = lift_half(pa);
-    let dy = lift_half(pc);
-    let mut bg_line = [Rgb15::TRANSPARENT; 240];
+    let lifted = affine.lift();
+    let mut bg_line = [Rgb15::TRANSPARENT; DISPLAY_WIDTH];
     let mut screen_x: usize = 0;
     while screen_x < DISPLAY_WIDTH {
-        let x = transform_bg_point(rx, dx, screen_x as u32);
-        let y = transform_bg_point(ry, dy, screen_x as u32);
+        let x = transform_bg_point(lifted.x, lifted.pa, screen_x as u32);
+        let y = transform_bg_point(lifted.y, lifted.pc, screen_x as u32);
         bg_line[screen_x] = aff_bg_color(vram, palette, screen_block, char_block, viewport, x, y);
         screen_x += 1;
     }

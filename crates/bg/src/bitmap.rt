@@ -1,25 +1,35 @@
 // Bitmap backgrounds, of modes 3 to 5 (gpu/render/bitmap.rs), as one routine: they differ in size, page and pixel.
 ghost use mathlib.Core.Path.{_≡_};
-ghost use mathlib.Core.Bool.{true};
 ghost use Prim.Native.Nat.{_+_, _*_, _≤_, _<_};
 ghost use Rattle.rgb15.specs.Colour.{rgb};
-ghost use Rattle.signed.specs.Signed.{inRange};
 ghost use Rattle.rows.specs.Tab.{tab};
-ghost use Rattle.memory.specs.Code.{Lent};
-ghost use Rattle.bg_points.specs.Code.{coordinate, Side};
+ghost use Rattle.bg_points.specs.Code.{coordinate};
 ghost use Rattle.bg_points.specs.Point.{pointColor};
 ghost use Rattle.bg.specs.Bitmap.{BitmapViewPort, bitmapStart, bitmapPixel, bitmapColor};
+ghost use Rattle.bg.specs.Code.{BitmapLine, BitmapPage, BitmapPlace, BitmapSides};
+use crate::steps::BgAffine;
 use bg_points::ViewPort;
 use bg_points::rem_euclid;
 use bg_points::transform_bg_point;
+use memory::DISPLAY_HEIGHT;
 use memory::DISPLAY_WIDTH;
 use memory::get_palette_color;
 use memory::read_8;
 use memory::read_16;
 use regs::BgControl;
 use rgb15::Rgb15;
-use signed::lift_half;
-use signed::lift_i32;
+
+// The size of a picture in mode 5, and in modes 3 and 4.
+const MODE5_WIDTH: u32 = 160;
+
+const MODE5_HEIGHT: u32 = 128;
+
+const SCREEN_WIDTH: u32 = DISPLAY_WIDTH as u32;
+
+const SCREEN_HEIGHT: u32 = DISPLAY_HEIGHT as u32;
+
+// How far apart the frames of modes 4 and 5 lie.
+const PAGE_SIZE: usize = 0xa000;
 
 // The size of a mode's picture.
 fn bitmap_viewport(mode: u16, wraparound: bool) -> ViewPort
@@ -27,14 +37,14 @@ fn bitmap_viewport(mode: u16, wraparound: bool) -> ViewPort
 {
     if mode == 5 {
         ViewPort {
-            w: 160,
-            h: 128,
+            w: MODE5_WIDTH,
+            h: MODE5_HEIGHT,
             wraparound,
         }
     } else {
         ViewPort {
-            w: 240,
-            h: 160,
+            w: SCREEN_WIDTH,
+            h: SCREEN_HEIGHT,
             wraparound,
         }
     }
@@ -48,7 +58,7 @@ fn page_ofs(mode: u16, frame: u16) -> usize
     if mode == 3 {
         0
     } else {
-        frame as usize * 0xa000
+        frame as usize * PAGE_SIZE
     }
 }
 
@@ -62,7 +72,7 @@ fn bitmap_pixel(
     x: usize,
     y: usize,
 ) -> Rgb15
-    requires { ⌜ Lent (now vram) (now palette) × (page ≤ 0xa000) × (w ≤ 240) × (x < w) × (y < 160) ⌝ }
+    requires { ⌜ BitmapPage (now vram) (now palette) page × BitmapPlace w x y ⌝ }
     ensures { λ c. ⌜ c .0 ≡ bitmapPixel (now (vram .entry)) (now (palette .entry)) mode page w x y ⌝ }
 {
     let index = x + w * y;
@@ -83,8 +93,7 @@ fn bitmap_color(
     x: u32,
     y: u32,
 ) -> Rgb15
-    requires { ⌜ Lent (now vram) (now palette) × (page ≤ 0xa000)
-        × (viewport .w ≤ 240) × Side (viewport .w) × (viewport .h ≤ 160) × Side (viewport .h) ⌝ }
+    requires { ⌜ BitmapPage (now vram) (now palette) page × BitmapSides viewport ⌝ }
     ensures { λ c. ⌜ c .0 ≡ pointColor (viewport .wraparound) (viewport .w) (viewport .h)
         (bitmapPixel (now (vram .entry)) (now (palette .entry)) mode page (viewport .w)) (coordinate x) (coordinate y) ⌝ }
 {
@@ -103,26 +112,21 @@ pub fn render_bitmap(
     mode: u16,
     frame: u16,
     control: u16,
-    ref_x: i32,
-    ref_y: i32,
-    pa: u16,
-    pc: u16,
-) -> [Rgb15; 240]
-    requires { ⌜ Lent (now vram) (now palette) × (frame < 2) × (inRange «ref_x» ≡ true) × (inRange «ref_y» ≡ true) ⌝ }
-    ensures { λ r. ⌜ r ≡ tab (λ column. rgb (bitmapColor (now (vram .entry)) (now (palette .entry)) mode frame control «ref_x» «ref_y» pa pc column)) 240 ⌝ }
+    affine: BgAffine,
+) -> [Rgb15; DISPLAY_WIDTH]
+    requires { ⌜ BitmapLine (now vram) (now palette) frame affine ⌝ }
+    ensures { λ r. ⌜ r ≡ tab (λ column. rgb (bitmapColor (now (vram .entry)) (now (palette .entry)) mode frame control
+        (affine .x) (affine .y) (affine .pa) (affine .pc) column)) 240 ⌝ }
 {
     let bgcnt = BgControl::from(control);
     let viewport = bitmap_viewport(mode, bgcnt.affine_wraparound);
     let page = page_ofs(mode, frame);
-    let rx = lift_i32(ref_x);
-    let ry = lift_i32(ref_y);
-    let dx = lift_half(pa);
-    let dy = lift_half(pc);
-    let mut bg_line = [Rgb15::TRANSPARENT; 240];
+    let lifted = affine.lift();
+    let mut bg_line = [Rgb15::TRANSPARENT; DISPLAY_WIDTH];
     let mut screen_x: usize = 0;
     while screen_x < DISPLAY_WIDTH {
-        let x = transform_bg_point(rx, dx, screen_x as u32);
-        let y = transform_bg_point(ry, dy, screen_x as u32);
+        let x = transform_bg_point(lifted.x, lifted.pa, screen_x as u32);
+        let y = transform_bg_point(lifted.y, lifted.pc, screen_x as u32);
         bg_line[screen_x] = bitmap_color(vram, palette, mode, page, viewport, x, y);
         screen_x += 1;
     }

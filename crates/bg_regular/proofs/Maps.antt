@@ -11,10 +11,11 @@ use Rattle.rgb15.specs.Colour.{rgb, transparent}
 use Rattle.rgb15.specs.declared.Rgb15.{Rgb15}
 use Rattle.rows.specs.Tab.{tab}
 use Rattle.rows.proofs.Tab.{getD-of-tab, tab-cong}
+use Rattle.memory.specs.Sizes.{videoRamSize}
 use Rattle.memory.specs.Tiles.{tileSize, paletteBank}
 use Rattle.memory.specs.declared.PixelFormat.{PixelFormat}
 use Rattle.memory.proofs.Laws.{tileSize-bound}
-use Rattle.tiles.specs.Flip.{flipped}
+use Rattle.tiles.specs.Flip.{flip}
 use Rattle.tiles.proofs.Empty.{emptyRow, row-empty}
 use Rattle.regs.specs.Background.{BgControlOf, RegularSize, charBlock, screenBlock, regularWidth, regularHeight, tileFormat, size}
 use Rattle.regs.specs.declared.BgControl.{BgControl}
@@ -30,36 +31,22 @@ blockRow-bound width y width≤ y< =
     let down : y / 256 ≤ 1 = omega arith in
     omega (arith, mul-le-mul across down)
 
--- A side of a regular background is 256 or 512.
-pub regularWidth-side : (n : ℕ) {side : ℕ} → side ≡ regularWidth n → (side % 256 ≡ 0) × (256 ≤ side) × (side ≤ 512)
-regularWidth-side n e = (omega arith, omega arith, omega arith)
-
-pub regularHeight-side : (n : ℕ) {side : ℕ} → side ≡ regularHeight n → (side % 256 ≡ 0) × (256 ≤ side) × (side ≤ 512)
-regularHeight-side n e = (omega arith, omega arith, omega arith)
-
--- How far the bases of a control's tiles and map lie.
-pub charBlock-bound : {control : ℕ} {b : BgControl} {tiles : ℕ} → BgControlOf control b → tiles ≡ charBlock (b .«character_base_block»)
-    → tiles ≤ 0xc000
-charBlock-bound control-is e = omega (arith, control-is .character-is)
-
-pub screenBlock-bound : {control : ℕ} {b : BgControl} {screen : ℕ} → BgControlOf control b → screen ≡ screenBlock (b .«screen_base_block»)
-    → screen ≤ 0xf800
-screenBlock-bound control-is e = omega (arith, control-is .screen-is)
-
--- The tiles before the one of an entry.
-pub tiles-bound : (format : PixelFormat) {index size : ℕ} → index ≤ 1023 → size ≡ tileSize format → index * size ≤ 1023 * 64
-tiles-bound format {index} {size} index≤ e =
+-- The tile of an entry lies in video memory.
+pub entryTile-bound : (format : PixelFormat) (entry : ℕ) {tiles index size : ℕ} →
+    tiles ≤ 0xc000 → index ≡ tileIndex entry → size ≡ tileSize format → tiles + index * size + 63 < videoRamSize
+entryTile-bound format entry {index = index} {size} tiles≤ index-is size-is =
+    let index≤ : index ≤ 1023 = omega arith in
     let size≤ : size ≤ 64 = omega (arith, tileSize-bound format) in
-    mul-le-mul index≤ size≤
+    omega (arith, mul-le-mul index≤ size≤)
 
 module _ (vram palette : List ℕ) (tiles : ℕ) (format : PixelFormat) (entry y : ℕ)
     {index size down : ℕ} {yflip : Bool}
     (index-is : index ≡ tileIndex entry) (size-is : size ≡ tileSize format)
-    (yflip-is : yflip ≡ yFlip entry) (down-is : down ≡ flipped yflip y) where
+    (yflip-is : yflip ≡ yFlip entry) (down-is : down ≡ flip yflip 8 y) where
   -- The eight colours that an entry shows, as they are made: what is read of the entry, and a row of its tile, flipped.
   pub entryRow-is : {number bank : ℕ} {xflip : Bool} {r : List Rgb15} →
       number ≡ entryBank entry → bank ≡ paletteBank format number → xflip ≡ xFlip entry →
-      r ≡ tab (λ x. rgb (tileColor vram palette (tiles + index * size) (flipped xflip x) down format bank)) 8 →
+      r ≡ tab (λ x. rgb (tileColor vram palette (tiles + index * size) (flip xflip 8 x) down format bank)) 8 →
       r ≡ tab (λ x. rgb (entryColor vram palette tiles format entry x y)) 8
   unfolding entryColor
   entryRow-is number-is bank-is xflip-is r-is = r-is ∙ tab-cong _ _ 8 (λ x x<. (cc))

@@ -8,7 +8,7 @@ use Rattle.memory.specs.Memory.{half}
 use Rattle.memory.specs.Palette.{paletteColor}
 use Rattle.memory.specs.Tiles.{tileSize, paletteBank, tilePixel}
 use Rattle.memory.specs.declared.PixelFormat.{PixelFormat}
-use Rattle.tiles.specs.Flip.{flipped}
+use Rattle.tiles.specs.Flip.{flip}
 use Rattle.regs.specs.Background.{SCREEN_BLOCK_SIZE, palette256, characterBaseBlock, screenBaseBlock, size, charBlock, screenBlock}
 use Rattle.regs.specs.Background.{regularWidth, regularHeight, tileFormat}
 
@@ -57,8 +57,8 @@ unfoldable pub entryColor : List ℕ → List ℕ → ℕ → PixelFormat → �
 entryColor vram palette tiles format entry x y =
     tileColor vram palette
     (tiles + tileIndex entry * tileSize format)
-    (flipped (xFlip entry) x)
-    (flipped (yFlip entry) y)
+    (flip (xFlip entry) 8 x)
+    (flip (yFlip entry) 8 y)
     format
     (paletteBank format (entryBank entry))
 

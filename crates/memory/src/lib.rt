@@ -24,7 +24,7 @@ pub const DISPLAY_WIDTH: usize = 240;
 pub const DISPLAY_HEIGHT: usize = 160;
 
 // Bytes of a tile of 16 colours.
-const TILE_SIZE: usize = 0x20;
+pub const TILE_SIZE: usize = 0x20;
 
 // Two bytes as a halfword, the low one first.
 fn join(low: u8, high: u8) -> u16

@@ -16,7 +16,8 @@ use Rattle.obj_sprites.specs.Oam.{Matrix}
 use Rattle.obj_sprites.specs.Attrs.{sprite}
 use Rattle.obj_sprites.specs.Place.{boxWidth, boxHeight, across, below}
 use Rattle.obj_sprites.specs.Tiles.{texel}
-use Rattle.obj_sprites.specs.Color.{flip, normalColor, turn, colorAt, affineObjColor}
+use Rattle.tiles.specs.Flip.{flip}
+use Rattle.obj_sprites.specs.Color.{normalColor, turn, colorAt, affineObjColor}
 use Rattle.obj_sprites.specs.Sprite.{Source, drawn, typedColor, spriteColor}
 use Rattle.obj_sprites.specs.declared.attrs.ObjAttrs.{ObjAttrs}
 use Rattle.obj_sprites.specs.declared.attrs.ObjType.{ObjType}

@@ -1,21 +1,18 @@
 -- A sprite's colour at a column of a line that is in its box (01, "Sprites"; GBATEK, "LCD OBJ - OAM Attributes",
 -- "LCD OBJ - OAM Rotation/Scaling Parameters"). Assumes nothing.
-use Prim.Native.Nat.{ℕ, _-_, _/_}
-use mathlib.Core.Bool.{Bool, cond, _&&_}
+use Prim.Native.Nat.{ℕ, _/_}
+use mathlib.Core.Bool.{cond, _&&_}
 use mathlib.Core.List.{List}
 use lib.IntN.{ℤ, pos, natAbs, _+ℤ_, _-ℤ_, _*ℤ_}
 use Rattle.rgb15.specs.Colour.{transparent}
 use Rattle.signed.specs.Signed.{down256, within}
+use Rattle.tiles.specs.Flip.{flip}
 use Rattle.regs.specs.declared.ObjMapping.{ObjMapping}
 use Rattle.regs.specs.declared.reading.Reading.{Reading}
 use Rattle.obj_sprites.specs.Oam.{Matrix}
 use Rattle.obj_sprites.specs.Place.{boxWidth, boxHeight, across, below}
 use Rattle.obj_sprites.specs.Tiles.{texel}
 use Rattle.obj_sprites.specs.declared.attrs.ObjAttrs.{ObjAttrs}
-
--- A place of a side, counted from the other end where the bit is set.
-unfoldable pub flip : Bool → ℕ → ℕ → ℕ
-flip set side at = cond set (side - 1 - at) at
 
 -- A normal sprite's colour at a column: it flips by bits 12 and 13 of the second halfword.
 unfoldable pub normalColor : Reading → ObjMapping → List ℕ → List ℕ → ObjAttrs → ℕ → ℕ → ℕ

@@ -5,7 +5,6 @@ ghost use lib.ListN.{length};
 ghost use Rattle.memory.specs.Sizes.{videoRamSize, paletteRamSize, oamSize};
 ghost use Rattle.obj_sprites.specs.Attrs.{sprite, Decoded};
 ghost use Rattle.obj_sprites.specs.Tiles.{tilesStart, texel};
-ghost use Rattle.obj_sprites.specs.Color.{flip};
 
 mod attrs;
 
@@ -18,6 +17,7 @@ use memory::read_16;
 use regs::ObjMapping;
 use regs::Reading;
 use rgb15::Rgb15;
+pub use tiles::flip;
 use tiles::tile_color;
 
 // Where the sprites' half of the palette starts.
@@ -75,14 +75,6 @@ pub fn read_texel(
         format,
         bank,
     )
-}
-
-// A place of a side, counted from the other end where the bit is set.
-pub fn flip(set: bool, side: usize, at: usize) -> usize
-    requires { ⌜ at < side ⌝ }
-    ensures { λ r. ⌜ (r ≡ flip set side at) × (r < side) ⌝ }
-{
-    if set { side - 1 - at } else { at }
 }
 
 // Where sprite tiles start.

@@ -19,7 +19,8 @@ use Rattle.obj_sprites.specs.Size.{widths, heights, objWidth, objHeight}
 use Rattle.obj_sprites.specs.Attrs.{objMode, objType, objAttrs, sprite}
 use Rattle.obj_sprites.specs.Place.{xOf, yOf, boxed, left, top, onLine}
 use Rattle.obj_sprites.specs.Tiles.{tilesStart, tileBase, tileRow, tileAt, texel}
-use Rattle.obj_sprites.specs.Color.{flip, normalColor}
+use Rattle.tiles.specs.Flip.{flip}
+use Rattle.obj_sprites.specs.Color.{normalColor}
 use Rattle.obj_sprites.specs.Sprite.{source, isShown, isPermitted, drawn, typedColor, spriteColor}
 use Rattle.obj_sprites.specs.declared.attrs.ObjAttrs.{ObjAttrs}
 use Rattle.obj_sprites.specs.declared.attrs.ObjMode.{ObjMode}

@@ -21,8 +21,8 @@ use Rattle.memory.specs.Tiles.{tilePixel}
 use Rattle.memory.specs.declared.PixelFormat.{PixelFormat}
 use Rattle.memory.specs.declared.PixelFormat.the-variants.{BPP4, BPP8}
 use Rattle.memory.proofs.Laws.{Bytes, paletteColor-zero}
-use Rattle.tiles.specs.Flip.{flipped}
-use Rattle.tiles.proofs.Rows.{flipped-bound}
+use Rattle.tiles.specs.Flip.{flip}
+use Rattle.tiles.proofs.Rows.{flip-bound}
 
 -- A number that is 0 exactly if two others are.
 eqb-both : (n a b : ℕ) → (n ≡ 0 → (a ≡ 0) × (b ≡ 0)) → (a ≡ 0 → b ≡ 0 → n ≡ 0) → eqb n 0 ≡ eqb a 0 && eqb b 0
@@ -93,13 +93,13 @@ module _ (vram : List ℕ) (addr y : ℕ) where
       ∙ allBelow-pairs (λ x. eqb (tilePixel vram addr x y BPP8) 0))
 
 -- All colours of such a row are transparent, flipped or not.
-pub row-empty : (vram palette : List ℕ) (offset addr y : ℕ) (format : PixelFormat) (bank : ℕ) (flip : Bool) {t : Bool} →
+pub row-empty : (vram palette : List ℕ) (offset addr y : ℕ) (format : PixelFormat) (bank : ℕ) (flipped : Bool) {t : Bool} →
     t ≡ emptyRow vram addr y format → t ≡ true →
     replicate 8 (rgb transparent)
-    ≡ tab (λ x. rgb (paletteColor palette offset (tilePixel vram addr (flipped flip x) y format) bank)) 8
-row-empty vram palette offset addr y format bank flip t-is t-holds =
+    ≡ tab (λ x. rgb (paletteColor palette offset (tilePixel vram addr (flip flipped 8 x) y format) bank)) 8
+row-empty vram palette offset addr y format bank flipped t-is t-holds =
     tab-replicate (rgb transparent) 8
-    ∙ tab-cong _ _ 8 (λ x x<. ap rgb (sym (color (flipped flip x) (flipped-bound flip x x<))))
+    ∙ tab-cong _ _ 8 (λ x x<. ap rgb (sym (color (flip flipped 8 x) (flip-bound flipped 8 x x<))))
   where
     index : (x : ℕ) → x < 8 → tilePixel vram addr x y format ≡ 0
     index x x< = eqb-true _ 0 (allBelow-at _ 8 (sym t-is ∙ t-holds) x x<)

@@ -1,8 +1,8 @@
--- Tiles that are shown flipped (01, "Backgrounds"; GBATEK, "LCD VRAM Overview, Character Data, BG Screen Data Format").
--- Assumes nothing.
+-- Tiles and sprites that are shown flipped (01, "Backgrounds", "Sprites"; GBATEK, "LCD VRAM Overview, Character Data, BG Screen
+-- Data Format", "LCD OBJ - OAM Attributes"). Assumes nothing.
 use Prim.Native.Nat.{ℕ, _-_}
 use mathlib.Core.Bool.{Bool, cond}
 
--- A column or row of a tile, counted from its other side if it is flipped.
-abbrev pub flipped : Bool → ℕ → ℕ
-flipped flip at = cond flip (7 - at) at
+-- A place of a side, counted from the other end where the bit is set.
+unfoldable pub flip : Bool → ℕ → ℕ → ℕ
+flip set side at = cond set (side - 1 - at) at

@@ -1,2 +1,3 @@
 -- What the rows of a tile are. Assumes nothing.
 pub mod Flip
+pub mod Code

@@ -1,6 +1,6 @@
 // A tile's pixels and rows, for backgrounds and sprites alike (gpu/mod.rs, its reads).
 ghost use mathlib.Core.Path.{_≡_};
-ghost use Prim.Native.Nat.{_+_, _*_, _≤_, _<_};
+ghost use Prim.Native.Nat.{_+_, _*_, _<_};
 ghost use lib.Dec.{eqb};
 ghost use lib.ListN.{length, getD};
 ghost use Rattle.rgb15.specs.Colour.{rgb};
@@ -8,14 +8,17 @@ ghost use Rattle.rows.specs.Below.{allBelow};
 ghost use Rattle.rows.specs.Tab.{tab};
 ghost use Rattle.memory.specs.Memory.{half};
 ghost use Rattle.memory.specs.Palette.{paletteColor};
-ghost use Rattle.memory.specs.Sizes.{videoRamSize, paletteRamSize};
-ghost use Rattle.memory.specs.Tiles.{colours, tilePixel};
-ghost use Rattle.tiles.specs.Flip.{flipped};
+ghost use Rattle.memory.specs.Tiles.{tilePixel};
+ghost use Rattle.tiles.specs.Flip.{flip};
+ghost use Rattle.tiles.specs.Code.{TileRow, ColorRow};
 use memory::PixelFormat;
 use memory::get_palette_color;
 use memory::read_16;
 use memory::read_pixel_index;
 use rgb15::Rgb15;
+
+// Columns of a tile, and its rows.
+pub const TILE_SIDE: usize = 8;
 
 // The colour of a pixel of the tile at `tile_addr`, from a bank of the background's half of the palette or, at offset 0x200, the
 // sprites'.
@@ -29,20 +32,27 @@ pub fn tile_color(
     format: PixelFormat,
     bank: usize,
 ) -> Rgb15
-    requires { ⌜ (length (now vram) ≡ videoRamSize) × (length (now palette) ≡ paletteRamSize) × (offset ≤ 0x200)
-        × («tile_addr» + 63 < videoRamSize) × (x < 8) × (y < 8) × (16 * bank + colours format ≤ 256) ⌝ }
+    requires { ⌜ ColorRow (now vram) (now palette) offset «tile_addr» y format bank × (x < 8) ⌝ }
     ensures { λ c. ⌜ c .0 ≡ paletteColor (now (palette .entry)) offset (tilePixel (now (vram .entry)) «tile_addr» x y format) bank ⌝ }
 {
     let index = read_pixel_index(vram, tile_addr, x, y, format);
     get_palette_color(palette, index, bank, offset)
 }
 
-// A row, from right to left if it is flipped.
-pub fn flip_row(row: [Rgb15; 8], flip: bool) -> [Rgb15; 8]
-    requires { ⌜ length row ≡ 8 ⌝ }
-    ensures { λ r. ⌜ r ≡ tab (λ x. getD row (flipped flip x) (rgb 0)) 8 ⌝ }
+// A place of a side, counted from the other end where the bit is set.
+pub fn flip(set: bool, side: usize, at: usize) -> usize
+    requires { ⌜ at < side ⌝ }
+    ensures { λ r. ⌜ (r ≡ flip set side at) × (r < side) ⌝ }
 {
-    if flip {
+    if set { side - 1 - at } else { at }
+}
+
+// A row, from right to left if it is flipped.
+pub fn flip_row(row: [Rgb15; TILE_SIDE], flipped: bool) -> [Rgb15; TILE_SIDE]
+    requires { ⌜ length row ≡ 8 ⌝ }
+    ensures { λ r. ⌜ r ≡ tab (λ x. getD row (flip flipped 8 x) (rgb 0)) 8 ⌝ }
+{
+    if flipped {
         [
             row[7],
             row[6],
@@ -75,7 +85,7 @@ fn read_32(bytes: &[u8], at: usize) -> u32
 
 // Whether every pixel of a row of the tile at `tile_addr` has index 0. Its bytes are one word, or two.
 pub fn is_empty_row(vram: &[u8], tile_addr: usize, y: usize, format: PixelFormat) -> bool
-    requires { ⌜ (length (now vram) ≡ videoRamSize) × («tile_addr» + 63 < videoRamSize) × (y < 8) ⌝ }
+    requires { ⌜ TileRow (now vram) «tile_addr» y ⌝ }
     ensures { λ r. ⌜ r ≡ allBelow (λ x. eqb (tilePixel (now (vram .entry)) «tile_addr» x y format) 0) 8 ⌝ }
 {
     match format {

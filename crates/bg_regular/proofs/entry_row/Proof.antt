@@ -1,56 +1,46 @@
--- bg_regular::entry_row meets its contract: the tile, its bank and its two flips are the entry's, and no tile reaches past video memory.
+-- bg_regular::entry_row meets its contract: the tile, its bank and its two flips are the entry's, and its tile lies in video memory.
 -- Assumes nothing.
-use Prim.Native.Nat.{_≤_}
+use Prim.Native.Nat.{_+_, _*_, _<_}
 use native.Mathlib.Omega.{arith}
 use borrow.Author.Needs.{needs}
-use Rattle.bg_regular.proofs.Maps.{tiles-bound, entryRow-is, entryRow-empty}
+use Rattle.memory.specs.Sizes.{videoRamSize}
+use Rattle.bg_regular.proofs.Maps.{entryTile-bound, entryRow-is, entryRow-empty}
 use Rattle.bg_regular.proofs.entry_row.Statement.{statement}
 use Rattle.bg_regular.proofs.entry_row.Tie as tie
 
-mul-tile-addr : tie.Need-mul-tile-addr
-mul-tile-addr c =
-    let index : c .before .tile-index .result ≤ 1023 = omega arith in
-    omega (arith, tiles-bound (c .before .before .before .before .args .format) index (c .tile-size .ensures))
+tile-inside : (c : tie.After-tile-size)
+    → let start = c .before .before .before .before in
+    start .args .tileset-base + c .before .tile-index .result * c .tile-size .result + 63 < videoRamSize
+tile-inside c =
+    let start = c .before .before .before .before in
+    entryTile-bound (start .args .format) (start .args .entry .0) (start .pre .tiles≤)
+    (c .before .tile-index .ensures) (c .tile-size .ensures)
 
-add-tile-addr : tie.Need-add-tile-addr
-add-tile-addr c =
-    let index : c .before .tile-index .result ≤ 1023 = omega arith in
-    omega (arith, tiles-bound (c .before .before .before .before .args .format) index (c .tile-size .ensures))
+row-inside : tie.Need-is-empty-row-requires
+row-inside c κs = let inside = tile-inside (c .before .before) in search needs
 
-is-empty-row-requires : tie.Need-is-empty-row-requires
-is-empty-row-requires c κs =
-    let size = c .before .before in
-    let index : size .before .tile-index .result ≤ 1023 = omega arith in
-    (search needs, omega (arith, tiles-bound (size .before .before .before .before .args .format) index (size .tile-size .ensures)), search needs)
-
-returns : tie.Need-returns
-returns c =
-    let empty = c .before in
-    let flip = empty .before in
+empty : tie.Need-returns
+empty c =
+    let tested = c .before in
+    let flip = tested .before in
     let yflip = flip .before in
     let size = yflip .before in
     entryRow-empty _ _ _ _ _ _
     (size .before .tile-index .ensures)
     (size .tile-size .ensures)
     (yflip .y-flip .ensures)
-    (flip .flip-at .ensures .0)
-    (empty .is-empty-row .ensures)
+    (flip .flip .ensures .0)
+    (tested .is-empty-row .ensures)
     (c .if1 .taken)
 
-tile-row-requires : tie.Need-tile-row-requires
-tile-row-requires c κs =
-    let flip = c .before .before .before .before .before in
-    let size = flip .before .before in
-    let start = size .before .before .before .before in
-    let index : size .before .tile-index .result ≤ 1023 = omega arith in (
-      start .pre .0,
-      omega (arith, tiles-bound (start .args .format) index (size .tile-size .ensures)),
-      flip .flip-at .ensures .1,
-      c .before .palette-bank2 .ensures .1,
-    )
+row-colored : tie.Need-tile-row-requires
+row-colored c κs =
+    let tested = c .before .before .before .before in
+    let inside = tile-inside (tested .before .before .before) in
+    search needs
 
-returns-2 : tie.Need-returns-2
-returns-2 c =
+flipped : tie.Need-returns-2
+flipped c =
     let xflip = c .before in
     let bank = xflip .before in
     let number = bank .before in
@@ -61,7 +51,7 @@ returns-2 c =
     (size .before .tile-index .ensures)
     (size .tile-size .ensures)
     (yflip .y-flip .ensures)
-    (flip .flip-at .ensures .0)
+    (flip .flip .ensures .0)
     (number .palette-bank .ensures)
     (bank .palette-bank2 .ensures .0)
     (xflip .x-flip .ensures)
@@ -73,14 +63,14 @@ entry-row-spec =
     (tie.spec
     (search needs)
     (search needs)
-    mul-tile-addr
-    add-tile-addr
+    (λ c. omega (arith, tile-inside c))
+    (λ c. omega (arith, tile-inside c))
     (search needs)
     (search needs)
-    is-empty-row-requires
-    returns
+    row-inside
+    empty
     (search needs)
     (search needs)
     (search needs)
-    tile-row-requires
-    returns-2)
+    row-colored
+    flipped)

@@ -6,11 +6,14 @@ use borrow.Author.Needs.{needs}
 use Rattle.bg_regular.proofs.wrap.Statement.{statement}
 use Rattle.bg_regular.proofs.wrap.Tie as tie
 
-returns : tie.Need-returns
-returns c = rw (c .if1 .taken) (search needs)
+wide : tie.Need-returns
+wide c = rw (c .if1 .taken) (search needs)
 
-returns-2 : tie.Need-returns-2
-returns-2 c = let e : c .before .args .side ≡ 256 = omega (arith, c .if1 .left) in rw e (search needs)
+narrow : tie.Need-returns-2
+narrow c =
+    let pre = c .before .pre in
+    let e : c .before .args .side ≡ 256 = omega (arith, c .if1 .left, pre .whole, pre .side≥, pre .side≤) in
+    rw e (search needs)
 
 pub wrap-spec : {M : Type 1} → statement M
-wrap-spec = tie.close (tie.spec returns returns-2)
+wrap-spec = tie.close (tie.spec wide narrow)

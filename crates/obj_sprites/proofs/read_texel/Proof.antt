@@ -15,5 +15,5 @@ read-texel-spec =
     (tie.spec
     (λ c κs. omega arith)
     (λ c κs. omega arith)
-    (λ c κs. omega arith)
+    (λ c κs. search needs)
     returns)

@@ -1,19 +1,24 @@
--- tiles::flip_row meets its contract: a flipped row is the list of the elements that flipped names, by computation.
+-- tiles::flip_row meets its contract: a flipped row is the list of the elements that flip names, by computation.
 -- Assumes nothing.
 use mathlib.Core.Path.{refl}
 use borrow.Author.Needs.{needs}
 use Rattle.rgb15.specs.Colour.{rgb}
 use Rattle.rows.specs.Tab.{tab}
 use Rattle.rows.proofs.Tab.{tab-ext}
+use Rattle.tiles.specs.Flip.{flip}
 use Rattle.tiles.proofs.flip_row.Statement.{statement}
 use Rattle.tiles.proofs.flip_row.Tie as tie
 
-returns : tie.Need-returns
-unfolding tab
-returns c = rw (c .before .before .before .before .before .before .before .before .if1 .taken)
+from-right : tie.Need-returns
+unfolding tab flip
+from-right c =
+    let fifth = c .before .before .before in
+    let second = fifth .before .before .before in
+    rw (second .before .before .if1 .taken)
 
-returns-2 : tie.Need-returns-2
-returns-2 c = rw (c .if1 .left) (tab-ext _ 8 (rgb 0) _ (c .before .pre) (λ k k<. refl))
+from-left : tie.Need-returns-2
+unfolding flip
+from-left c = rw (c .if1 .left) (tab-ext _ 8 (rgb 0) _ (c .before .pre) (λ k k<. refl))
 
 pub flip-row-spec : {M : Type 1} → statement M
 flip-row-spec =
@@ -27,5 +32,5 @@ flip-row-spec =
     (search needs)
     (search needs)
     (search needs)
-    returns
-    returns-2)
+    from-right
+    from-left)

@@ -6,10 +6,7 @@ use Rattle.tiles.proofs.tile_color.Statement.{statement}
 use Rattle.tiles.proofs.tile_color.Tie as tie
 
 returns : tie.Need-returns
-returns c =
-    let read = c .before in
-    let at = read .before .before .before .args in
-    paletteColor-read (at .palette .now) (at .offset) (at .bank) (read .read-pixel-index .ensures .0) (c .get-palette-color .ensures)
+returns c = search (needs, paletteColor-read)
 
 pub tile-color-spec : {M : Type 1} → statement M
 tile-color-spec = tie.close (tie.spec (search needs) (search needs) returns)

@@ -1,19 +1,15 @@
 -- bg::affine::aff_bg_pixel meets its contract: the tile is the map's byte, and the map's rows lie in video memory.
 -- Assumes nothing.
+use Prim.Native.Nat.{_*_, _/_, _≤_}
 use native.Mathlib.Omega.{arith}
 use borrow.Author.Needs.{needs}
 use Rattle.bg.proofs.Pixels.{tileRow-bound, affinePixel-is}
 use Rattle.bg.proofs.affine.aff_bg_pixel.Statement.{statement}
 use Rattle.bg.proofs.affine.aff_bg_pixel.Tie as tie
 
-mul-read-8 : tie.Need-mul-read-8
-mul-read-8 c = let pre = c .before .before .pre in omega (arith, tileRow-bound _ _ (pre .3) (pre .5))
-
-add-read-8-2 : tie.Need-add-read-8-2
-add-read-8-2 c = let pre = c .before .before .pre in omega (arith, tileRow-bound _ _ (pre .3) (pre .5))
-
-read-8-requires : tie.Need-read-8-requires
-read-8-requires c κs = let pre = c .before .before .pre in omega (arith, tileRow-bound _ _ (pre .3) (pre .5))
+tiles-above : (c : tie.After-shared-slice-known2)
+    → let at = c .before .before .args in at .side / 8 * (at .y / 8) ≤ 128 * 127
+tiles-above c = let place = c .before .before .pre .1 in tileRow-bound _ _ (place .side≤) (place .y<)
 
 returns : tie.Need-returns
 returns c = affinePixel-is _ _ _ _ _ _ _ (c .before .read-8 .ensures .0) (c .tile-color .ensures)
@@ -23,10 +19,10 @@ aff-bg-pixel-spec =
     tie.close
     (tie.spec
     (search needs)
-    mul-read-8
-    add-read-8-2
-    read-8-requires
+    (λ c. omega (arith, tiles-above c))
+    (λ c. omega (arith, tiles-above c))
+    (λ c κs. omega (arith, tiles-above c))
     (search needs)
     (search needs)
-    (search needs)
+    (λ c κs. search needs)
     returns)

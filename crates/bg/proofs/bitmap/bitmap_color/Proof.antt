@@ -5,22 +5,22 @@ use Rattle.bg_points.proofs.Points.{pointColor-hidden, pointColor-shown}
 use Rattle.bg.proofs.bitmap.bitmap_color.Statement.{statement}
 use Rattle.bg.proofs.bitmap.bitmap_color.Tie as tie
 
-returns : tie.Need-returns
-returns c = search (needs, pointColor-hidden)
+hidden : tie.Need-returns
+hidden c = search (needs, pointColor-hidden)
 
-returns-2 : tie.Need-returns-2
-returns-2 c = search (needs, pointColor-shown)
+shown : tie.Need-returns-2
+shown c = search (needs, pointColor-shown)
 
 pub bitmap-color-spec : {M : Type 1} → statement M
 bitmap-color-spec =
     tie.close
     (tie.spec
     (search needs)
-    returns
+    hidden
     (search needs)
     (search needs)
     (search needs)
     (search needs)
     (search needs)
     (search needs)
-    returns-2)
+    shown)

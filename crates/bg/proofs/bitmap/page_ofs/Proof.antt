@@ -5,11 +5,11 @@ use borrow.Author.Tests.{eq-eqb, ne-eqb}
 use Rattle.bg.proofs.bitmap.page_ofs.Statement.{statement}
 use Rattle.bg.proofs.bitmap.page_ofs.Tie as tie
 
-returns : tie.Need-returns
-returns c = simp (eq-eqb _ _ (c .if1 .taken)) (search needs)
+three : tie.Need-returns
+three c = simp (eq-eqb _ _ (c .if1 .taken)) (search needs)
 
-returns-2 : tie.Need-returns-2
-returns-2 c = simp (ne-eqb _ _ (c .if1 .left)) (search needs)
+other : tie.Need-returns-2
+other c = simp (ne-eqb _ _ (c .if1 .left)) (search needs)
 
 pub page-ofs-spec : {M : Type 1} → statement M
-page-ofs-spec = tie.close (tie.spec (search needs) returns returns-2)
+page-ofs-spec = tie.close (tie.spec (search needs) three other)
