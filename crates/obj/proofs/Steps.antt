@@ -11,6 +11,7 @@ use mir.Syntax.{w8}
 use mir.Val.{Fits}
 use denote.Enum.Declared.{tagOf}
 use types.Run.{OneOf, miss}
+use Rattle.rgb15.specs.Colour.{transparent}
 use Rattle.rows.specs.Cells.{mapRow}
 use Rattle.rows.proofs.Cells.{mapRow-all, mapRow-cong}
 use Rattle.rows.proofs.Passed.{Composed, composed-none, composed-more}
@@ -22,12 +23,12 @@ use Rattle.regs.specs.declared.ObjMapping.{ObjMapping}
 use Rattle.regs.specs.declared.reading.Reading.{Reading}
 use Rattle.obj_sprites.specs.Oam.{matrix}
 use Rattle.obj_sprites.specs.Attrs.{sprite}
-use Rattle.obj_sprites.specs.Color.{affineObjColor}
+use Rattle.obj_sprites.specs.Color.{normalColor, affineObjColor}
 use Rattle.obj_sprites.specs.Tiles.{tilesStart}
 use Rattle.obj_sprites.specs.Sprite.{Source, source, drawn, typedColor, spriteColor}
 use Rattle.obj_entries.specs.Entry.{entryCells}
 use Rattle.obj.specs.Put.{putPixel, spriteStep, entryUpTo, putSprites}
-use Rattle.obj.specs.Code.{putRow, NoneDrawn, NextDrawn}
+use Rattle.obj.specs.Code.{OnLine, putRow, Each, NotDrawn, NextDrawn}
 use Rattle.obj_sprites.specs.declared.attrs.ObjAttrs.{ObjAttrs}
 use Rattle.obj_sprites.specs.declared.attrs.ObjType.{ObjType}
 use Rattle.obj_entries.specs.declared.Entry.{Entry}
@@ -35,27 +36,31 @@ use Rattle.obj_sprites.proofs.attrs.ObjType.{the-type}
 use Rattle.obj_entries.proofs.Entries.{exact-entryCells}
 use Rattle.obj.proofs.Pixels.{putPixel-transparent}
 
--- The colours of a sprite that was read, by its type.
-pub putRow-typed : (reading : Reading) (mapping : ObjMapping) (vram palette oam : List ℕ) (line : ℕ) (entries : List ℕ)
-    {s t : ObjAttrs} {type : ObjType} {m : List ℕ} → s ≡ t → s .objtype ≡ type
-    → m ≡ putRow s (typedColor type reading mapping vram palette oam s line) entries
-    → m ≡ putRow t (typedColor (t .objtype) reading mapping vram palette oam t line) entries
-putRow-typed reading mapping vram palette oam line entries {s} s-is type-is put-is =
-    put-is
-    ∙ ap (λ type. putRow s (typedColor type reading mapping vram palette oam s line) entries) (sym type-is)
-    ∙ ap (λ s. putRow s (typedColor (s .objtype) reading mapping vram palette oam s line) entries) s-is
+-- A sprite that was read has the line in its box.
+pub onLine-read : (reading : Reading) {s t : ObjAttrs} (line : ℕ) → s ≡ t → OnLine reading t line → OnLine reading s line
+onLine-read reading line s-is on-line = rw s-is on-line
+
+-- The colours of a sprite, by its type.
+module _ (type : ObjType) (reading : Reading) (mapping : ObjMapping) (vram palette oam : List ℕ) (s : ObjAttrs) (line : ℕ) where
+  pub typedColor-hidden : type ≡ ObjType.Hidden → typedColor type reading mapping vram palette oam s line ≡ λ _. transparent
+  unfolding typedColor
+  typedColor-hidden e = rw e
+
+  pub typedColor-normal : type ≡ ObjType.Normal
+      → typedColor type reading mapping vram palette oam s line ≡ normalColor reading mapping vram palette s line
+  unfolding typedColor
+  typedColor-normal e = rw e
 
 -- Both affine types have the colours of affine sprites; their numbers among the variants are 1 and 3.
-pub putRow-affine : (reading : Reading) (mapping : ObjMapping) (vram palette oam : List ℕ) (s : ObjAttrs) (line : ℕ)
-    (entries : List ℕ)
-    (type : ObjType) {m : List ℕ} → OneOf (1 ∷ 3 ∷ []) (tagOf the-type type)
-    → m ≡ putRow s (affineObjColor reading mapping vram palette (matrix oam (s .«affine_index»)) s line) entries
-    → m ≡ putRow s (typedColor type reading mapping vram palette oam s line) entries
+pub typedColor-affine : (type : ObjType) (reading : Reading) (mapping : ObjMapping) (vram palette oam : List ℕ) (s : ObjAttrs)
+    (line : ℕ) → OneOf (1 ∷ 3 ∷ []) (tagOf the-type type)
+    → typedColor type reading mapping vram palette oam s line
+    ≡ affineObjColor reading mapping vram palette (matrix oam (s .«affine_index»)) s line
 unfolding typedColor
-putRow-affine reading mapping vram palette oam s line entries ObjType.Normal one put-is = absurd (miss (1 ∷ 3 ∷ []) 0 tt one)
-putRow-affine reading mapping vram palette oam s line entries ObjType.Affine one put-is = put-is
-putRow-affine reading mapping vram palette oam s line entries ObjType.Hidden one put-is = absurd (miss (1 ∷ 3 ∷ []) 2 tt one)
-putRow-affine reading mapping vram palette oam s line entries ObjType.AffineDoubleSize one put-is = put-is
+typedColor-affine ObjType.Normal reading mapping vram palette oam s line one = absurd (miss (1 ∷ 3 ∷ []) 0 tt one)
+typedColor-affine ObjType.Affine reading mapping vram palette oam s line one = refl
+typedColor-affine ObjType.Hidden reading mapping vram palette oam s line one = absurd (miss (1 ∷ 3 ∷ []) 2 tt one)
+typedColor-affine ObjType.AffineDoubleSize reading mapping vram palette oam s line one = refl
 
 module _ (reading : Reading) (o : Source) (line n : ℕ) where
   -- The colours of a sprite that is drawn.
@@ -93,7 +98,7 @@ module _ (reading : Reading) (o : Source) (line : ℕ) where
   entryUpTo-more n column e = ap (λ k. entryUpTo reading o line k column e) (sym (add-one n))
 
   -- Sprites that are not drawn change nothing: n of them from a on, and those from a up to b.
-  entryUpTo-idle : (a n column : ℕ) (e : Entry) → NoneDrawn reading (o .start) (o .oam) line a (a + n)
+  entryUpTo-idle : (a n column : ℕ) (e : Entry) → Each (NotDrawn reading (o .start) (o .oam) line) a (a + n)
       → entryUpTo reading o line a column e ≡ entryUpTo reading o line (a + n) column e
   unfolding entryUpTo
   entryUpTo-idle a zero column e none =
@@ -104,7 +109,7 @@ module _ (reading : Reading) (o : Source) (line : ℕ) where
       ∙ sym (spriteStep-none reading o line (a + n) (none (a + n) (omega arith) (omega arith)) column _)
       ∙ ap (λ k. entryUpTo reading o line k column e) next
 
-  entryUpTo-rest : (a b column : ℕ) (e : Entry) → a ≤ b → NoneDrawn reading (o .start) (o .oam) line a b
+  entryUpTo-rest : (a b column : ℕ) (e : Entry) → a ≤ b → Each (NotDrawn reading (o .start) (o .oam) line) a b
       → entryUpTo reading o line a column e ≡ entryUpTo reading o line b column e
   entryUpTo-rest a b column e h none =
       let end : a + (b - a) ≡ b = omega arith in
@@ -124,11 +129,11 @@ module _ (reading : Reading) (o : Source) (line : ℕ) where
       record {
         composed =
             record {
-              bound = next .1;
+              bound = next .walked .to;
               size = p .size;
-              made = p .made ∙ mapRow-cong entryCells _ _ 240 l₀ (λ k k< e. entryUpTo-rest a b k e (next .0) (next .2));
+              made = p .made ∙ mapRow-cong entryCells _ _ 240 l₀ (λ k k< e. entryUpTo-rest a b k e (next .walked .from) (next .walked .passed));
             };
-        next = next .3;
+        next = next .next;
       }
 
   -- Where the pass begins: the first sprites are passed by up to a.
