@@ -14,7 +14,7 @@ use types.Run.{OneOf, miss}
 use Rattle.rgb15.specs.Colour.{transparent}
 use Rattle.rows.specs.Cells.{mapRow}
 use Rattle.rows.proofs.Cells.{mapRow-all, mapRow-cong}
-use Rattle.rows.proofs.Passed.{Composed, composed-none, composed-more}
+use Rattle.rows.proofs.Passed.{Composed, composed-none, composed-more, composed-all}
 use Rattle.memory.specs.Memory.{Memory}
 use Rattle.regs.specs.Registers.{dispcnt}
 use Rattle.regs.specs.Display.{DisplayControlOf, objMapping}
@@ -172,11 +172,11 @@ source-is m read mapping-is start-is =
       start = (start-is ∙ ap tilesStart (read .mode-is)) i;
     }
 
--- What the pass made of each column is the row after it.
-pub putSprites-is : (reading : Reading) {o p : Source} (line : ℕ) (entries : List ℕ) {m : List ℕ} → length entries ≡ 960
-    → m ≡ mapRow entryCells (entryUpTo reading o line 128) 240 entries → o ≡ p
-    → m ≡ putSprites reading p line entries
-putSprites-is reading {o} {p} line entries size made source =
-    made
-    ∙ mapRow-all entryCells (entryUpTo reading o line 128) 240 entries size
-    ∙ ap (λ o. putSprites reading o line entries) source
+-- Where the pass ends: what it made of each column is the row after it.
+pub sprites-all : (reading : Reading) {o p : Source} (line : ℕ) {n : ℕ} {l₀ l : List ℕ} → SpritesUpTo reading o line l₀ n l
+    → 128 ≤ n → length l₀ ≡ 960 → o ≡ p
+    → l ≡ putSprites reading p line l₀
+sprites-all reading {o} line {l₀ = l₀} p n≥ size o-is =
+    composed-all entryCells (p .composed) n≥
+    ∙ mapRow-all entryCells (entryUpTo reading o line 128) 240 l₀ size
+    ∙ ap (λ o. putSprites reading o line l₀) o-is
