@@ -20,18 +20,6 @@ bounds c =
     let size≤ : size .result ≤ 64 = rw (size .ensures) (tileSize-bound (at .self .format)) in
     (rows-bound _ (at .y) small (omega arith), tiles-bound _ (at .y) small (omega arith) _ (at .x) size≤ (omega arith))
 
-mul-result : tie.Need-mul-result
-mul-result c = omega (arith, bounds c)
-
-add-result : tie.Need-add-result
-add-result c = omega (arith, bounds c)
-
-mul-result-2 : tie.Need-mul-result-2
-mul-result-2 c = omega (arith, bounds c)
-
-add-result-2 : tie.Need-add-result-2
-add-result-2 c = omega (arith, bounds c)
-
 returns : tie.Need-returns
 returns c =
     let at = c .before .before .before .args in (
@@ -47,8 +35,8 @@ tile-at-spec =
     (search needs)
     (search needs)
     (search needs)
-    mul-result
-    add-result
-    mul-result-2
-    add-result-2
+    (λ c. omega (arith, bounds c))
+    (λ c. omega (arith, bounds c))
+    (λ c. omega (arith, bounds c))
+    (λ c. omega (arith, bounds c))
     returns)
