@@ -7,8 +7,6 @@ use mathlib.Core.List.{List}
 use lib.Dec.{leb, ltb}
 use lib.ListN.{length, getD}
 use borrow.Author.Tests.{ltb-true, ltb-false}
-use mir.Syntax.{w8}
-use mir.Val.{Fits}
 use Rattle.rgb15.specs.Colour.{rgb, transparent, isTransparent}
 use Rattle.rgb15.specs.declared.Rgb15.{Rgb15}
 use Rattle.rows.specs.Below.{between}
@@ -18,9 +16,10 @@ use Rattle.rows.proofs.Cells.{mapRow-ext, mapRow-same}
 use Rattle.rows.proofs.Passed.{PassedPart, passed-from, passed-inside, passed-to}
 use Rattle.obj_entries.specs.Entry.{entryCells}
 use Rattle.obj_entries.specs.declared.Entry.{Entry}
-use Rattle.obj_entries.proofs.Entries.{exact-entryCells}
+use Rattle.obj_entries.proofs.Entries.{AllBytes, exact-entryCells}
 use Rattle.obj_sprites.specs.declared.attrs.ObjAttrs.{ObjAttrs}
 use Rattle.obj_sprites.specs.declared.attrs.ObjMode.{ObjMode}
+use Rattle.obj_sprites.proofs.Booleans.{cond-both}
 use Rattle.obj.specs.Put.{passedOver, shownBy, windowed, written, putPixel}
 use Rattle.obj.specs.Code.{BoxColumns, putColumn, putRow, boxPixel, putBox, Each, Walked, WalkedBack, PassedOver}
 
@@ -38,13 +37,9 @@ module _ (mode : ObjMode) (priority : ℕ) where
   putPixel-passed color e t = rw t
 
 -- A pixel of a sprite of mode 3 changes nothing.
-putPixel-forbidden : (priority color : ℕ) (e : Entry) → putPixel ObjMode.Forbidden priority color e ≡ e
+pub putPixel-forbidden : (priority color : ℕ) (e : Entry) → putPixel ObjMode.Forbidden priority color e ≡ e
 unfolding putPixel passedOver written
-putPixel-forbidden priority color e = go (leb (e .priority) priority || isTransparent color)
-  where
-    go : (t : Bool) → cond t e e ≡ e
-    go true = refl
-    go false = refl
+putPixel-forbidden priority color e = cond-both (λ f. f ≡ e) (leb (e .priority) priority || isTransparent color) refl refl
 
 -- An ordinary or a semi-transparent sprite's pixel is shown, and a window sprite's is marked.
 putPixel-shown : (alpha : Bool) (priority color : ℕ) (e : Entry)
@@ -76,13 +71,13 @@ module _ (priority color : ℕ) (entries : List ℕ) (column : ℕ) {e f : Entry
 -- ---- a row
 
 -- A row stays where each entry does.
-mapRow-kept : (f : ℕ → Entry → Entry) (entries : List ℕ) → ((i : ℕ) → Fits w8 (getD entries i 0))
+mapRow-kept : (f : ℕ → Entry → Entry) (entries : List ℕ) → AllBytes entries
     → ((k : ℕ) → k < 240 → f k (cellAt entryCells entries k) ≡ cellAt entryCells entries k)
     → entries ≡ mapRow entryCells f 240 entries
 mapRow-kept f entries bytes kept = sym (mapRow-same entryCells f 240 entries (λ k k<. exact-entryCells entries bytes k) kept)
 
 -- A sprite that has no pixel leaves the row.
-pub putRow-none : (s : ObjAttrs) (color : ℕ → ℕ) (entries : List ℕ) → ((i : ℕ) → Fits w8 (getD entries i 0))
+pub putRow-none : (s : ObjAttrs) (color : ℕ → ℕ) (entries : List ℕ) → AllBytes entries
     → ((k : ℕ) → k < 240 → color k ≡ transparent)
     → entries ≡ putRow s color entries
 putRow-none s color entries bytes none =
@@ -96,7 +91,7 @@ pub record PutUpTo (mode : ObjMode) (priority : ℕ) (colors : List Rgb15) (left
   pub part : PassedPart entryCells (boxPixel mode priority colors left) 240 start end entries k l
 
 module _ {mode : ObjMode} {priority : ℕ} {colors : List Rgb15} {left start end : ℕ} {entries : List ℕ} where
-  pub putUpTo-none : BoxColumns entries left start end → ((i : ℕ) → Fits w8 (getD entries i 0))
+  pub putUpTo-none : BoxColumns entries left start end → AllBytes entries
       → PutUpTo mode priority colors left start end entries start entries
   putUpTo-none box bytes =
       record { part = passed-from entryCells (omega arith) (omega arith) (λ k k<. exact-entryCells entries bytes k) }
@@ -118,15 +113,11 @@ module _ (priority : ℕ) (colors : List Rgb15) (left start end : ℕ) (entries 
   putBox-window = refl
 
   -- A sprite of mode 3 leaves the row.
-  pub putBox-forbidden : ((i : ℕ) → Fits w8 (getD entries i 0))
+  pub putBox-forbidden : AllBytes entries
       → entries ≡ putBox ObjMode.Forbidden priority colors left start end entries
-  putBox-forbidden bytes = mapRow-kept _ entries bytes (λ k k<. go k (between start end k))
-    where
-      go : (k : ℕ) (t : Bool)
-          → cond t (boxPixel ObjMode.Forbidden priority colors left k (cellAt entryCells entries k)) (cellAt entryCells entries k)
-          ≡ cellAt entryCells entries k
-      go k true = putPixel-forbidden priority _ _
-      go k false = refl
+  putBox-forbidden bytes =
+      mapRow-kept _ entries bytes
+      (λ k k<. cond-both (λ f. f ≡ cellAt entryCells entries k) (between start end k) (putPixel-forbidden priority _ _) refl)
 
 -- ---- the columns that a sprite leaves
 
@@ -160,7 +151,7 @@ module _ (s : ObjAttrs) (color : ℕ → ℕ) (entries : List ℕ) {start end a 
       go false t = kept-outside k k< (between-past start end k (ltb-false k end t))
 
   -- Where no column is left between, the row stays.
-  pub putRow-closed : ((i : ℕ) → Fits w8 (getD entries i 0)) → b ≤ a → entries ≡ putRow s color entries
+  pub putRow-closed : AllBytes entries → b ≤ a → entries ≡ putRow s color entries
   putRow-closed bytes b≤a = mapRow-kept _ entries bytes (λ k k<. go k k< (ltb k a) refl)
     where
       go : (k : ℕ) → k < 240 → (t : Bool) → ltb k a ≡ t → Kept k

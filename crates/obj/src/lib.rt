@@ -17,6 +17,7 @@ use memory::DISPLAY_WIDTH;
 use obj_entries::Entry;
 use obj_entries::entry_at;
 use obj_entries::put_unless;
+use obj_sprites::BOX_MAX;
 use obj_sprites::OBJ_COUNT;
 use obj_sprites::ObjAttrs;
 use obj_sprites::ObjMode;
@@ -204,7 +205,7 @@ fn show_pixel(entries: &mut [u8], column: usize, pixel_color: Rgb15, priority: u
 // read in the loop, so that it becomes one over vectors.
 fn show_pixels(
     entries: &mut [u8],
-    row: [Rgb15; 128],
+    row: [Rgb15; BOX_MAX],
     left: usize,
     start: usize,
     end: usize,
@@ -254,7 +255,7 @@ fn mark_pixel(entries: &mut [u8], column: usize, pixel_color: Rgb15)
 }
 
 // A window sprite's colours put in the columns from start up to end, as `show_pixels` has it.
-fn mark_pixels(entries: &mut [u8], row: [Rgb15; 128], left: usize, start: usize, end: usize)
+fn mark_pixels(entries: &mut [u8], row: [Rgb15; BOX_MAX], left: usize, start: usize, end: usize)
     requires { ⌜ BoxColumns (now entries) left start end ⌝ }
     ensures { λ _.
         ⌜ now (entries .exit)
@@ -271,7 +272,7 @@ fn mark_pixels(entries: &mut [u8], row: [Rgb15; 128], left: usize, start: usize,
 fn write_obj_pixels(
     entries: &mut [u8],
     attrs: ObjAttrs,
-    row: [Rgb15; 128],
+    row: [Rgb15; BOX_MAX],
     left: usize,
     start: usize,
     end: usize,

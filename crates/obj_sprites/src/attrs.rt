@@ -2,7 +2,7 @@
 // reading is passed on.
 ghost use mathlib.Core.Path.{_≡_};
 ghost use mathlib.Core.Bool.{true};
-ghost use Prim.Native.Nat.{ℕ, _+_, _^_, _≤_, _<_};
+ghost use Prim.Native.Nat.{_+_, _^_, _≤_, _<_};
 ghost use lib.IntN.{pos, subℕ};
 ghost use Rattle.signed.specs.Signed.{within};
 ghost use Rattle.memory.specs.Sizes.{videoRamSize};

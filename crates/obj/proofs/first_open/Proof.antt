@@ -1,7 +1,6 @@
 -- obj::first_open meets its contract: each turn passes one column that is closed.
 -- Assumes nothing.
 use Prim.Native.Nat.{_-_}
-use native.Mathlib.Omega.{arith}
 use borrow.Author.Needs.{needs}
 use Rattle.obj.specs.Code.{Walked, Closed}
 use Rattle.obj.proofs.Skip.{walked-none, walked-more, closed-read}

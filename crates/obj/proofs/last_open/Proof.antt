@@ -1,6 +1,5 @@
 -- obj::last_open meets its contract: each turn passes one column that is closed, from the end on.
 -- Assumes nothing.
-use native.Mathlib.Omega.{arith}
 use borrow.Author.Needs.{needs}
 use Rattle.obj.specs.Code.{WalkedBack, Closed}
 use Rattle.obj.proofs.Skip.{walkedBack-none, walkedBack-more, closed-read}
