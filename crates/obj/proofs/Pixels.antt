@@ -4,6 +4,7 @@ use native.Mathlib.Omega.{arith}
 use mathlib.Core.Path.{_≡_, refl, sym, _∙_}
 use mathlib.Core.Bool.{Bool, true, false, cond, _||_, or-true}
 use mathlib.Core.List.{List}
+use mathlib.Core.Logic.{_⊎_, inl, inr}
 use lib.Dec.{leb, ltb}
 use lib.ListN.{length, getD}
 use borrow.Author.Tests.{ltb-true, ltb-false}
@@ -58,7 +59,8 @@ module _ (priority color : ℕ) (entries : List ℕ) (column : ℕ) {e f : Entry
     (e-is : e ≡ cellAt entryCells entries column) (clear-is : clear ≡ isTransparent color) where
   -- An entry that was read, and then kept or put as it shows the pixel.
   pub putColumn-shown : (alpha : Bool) → f ≡ shownBy alpha priority color e
-      → m ≡ putCell entryCells entries column (cond (leb (e .priority) priority || clear) (cellAt entryCells entries column) f)
+      → m
+      ≡ putCell entryCells entries column (cond (leb (e .priority) priority || clear) (cellAt entryCells entries column) f)
       → m ≡ putColumn (cond alpha ObjMode.Sfx ObjMode.Normal) priority color entries column
   putColumn-shown alpha f-is m-is = cc (putPixel-shown alpha priority color (cellAt entryCells entries column))
 
@@ -105,19 +107,12 @@ module _ {mode : ObjMode} {priority : ℕ} {colors : List Rgb15} {left start end
       → l ≡ putBox mode priority colors left start end entries
   putUpTo-all p end≤ = passed-to entryCells (p .part) end≤
 
-module _ (priority : ℕ) (colors : List Rgb15) (left start end : ℕ) (entries : List ℕ) where
-  -- A window sprite's priority is any.
-  pub putBox-window : putBox ObjMode.Window 0 colors left start end entries
-      ≡ putBox ObjMode.Window priority colors left start end entries
-  unfolding putPixel passedOver written
-  putBox-window = refl
-
-  -- A sprite of mode 3 leaves the row.
-  pub putBox-forbidden : AllBytes entries
-      → entries ≡ putBox ObjMode.Forbidden priority colors left start end entries
-  putBox-forbidden bytes =
-      mapRow-kept _ entries bytes
-      (λ k k<. cond-both (λ f. f ≡ cellAt entryCells entries k) (between start end k) (putPixel-forbidden priority _ _) refl)
+-- A sprite of mode 3 leaves the row.
+pub putBox-forbidden : (priority : ℕ) (colors : List Rgb15) (left start end : ℕ) (entries : List ℕ) → AllBytes entries
+    → entries ≡ putBox ObjMode.Forbidden priority colors left start end entries
+putBox-forbidden priority colors left start end entries bytes =
+    mapRow-kept _ entries bytes
+    (λ k k<. cond-both (λ f. f ≡ cellAt entryCells entries k) (between start end k) (putPixel-forbidden priority _ _) refl)
 
 -- ---- the columns that a sprite leaves
 
@@ -125,38 +120,43 @@ module _ (priority : ℕ) (colors : List Rgb15) (left start end : ℕ) (entries 
 abbrev pub NoneOutside : (ℕ → ℕ) → ℕ → ℕ → Type 0
 NoneOutside color start end = (k : ℕ) → k < 240 → between start end k ≡ false → color k ≡ transparent
 
+-- A column lies before, between or past two others.
+data Lies (a b k : ℕ) : Type 0 where
+  before : k < a → Lies a b k
+  inside : a ≤ k → k < b → Lies a b k
+  past : b ≤ k → Lies a b k
+
+lies : (a b k : ℕ) → Lies a b k
+lies a b k = go (ltb k a) (ltb k b) refl refl
+  where
+    go : (t u : Bool) → ltb k a ≡ t → ltb k b ≡ u → Lies a b k
+    go true u t h = before (ltb-true k a t)
+    go false true t h = inside (ltb-false k a t) (ltb-true k b h)
+    go false false t h = past (ltb-false k b h)
+
 -- A sprite with no pixel outside the columns from start up to end, of which it is passed over from start up to a and from b on.
-module _ (s : ObjAttrs) (color : ℕ → ℕ) (entries : List ℕ) {start end a b : ℕ}
-    (none : NoneOutside color start end)
+module _ (s : ObjAttrs) (color : ℕ → ℕ) (entries : List ℕ) {start end a b : ℕ} (none : NoneOutside color start end)
     (first : Walked (PassedOver entries s) start b a) (last : WalkedBack (PassedOver entries s) a end b) where
-  -- The entry of a column is kept.
-  abbrev Kept : ℕ → Type 0
-  Kept k = putPixel (s .objmode) (s .priority) (color k) (cellAt entryCells entries k) ≡ cellAt entryCells entries k
-
-  kept-outside : (k : ℕ) → k < 240 → between start end k ≡ false → Kept k
-  kept-outside k k< out = rw (none k k< out) (putPixel-transparent (s .objmode) (s .priority) _)
-
-  kept-before : (k : ℕ) → k < 240 → k < a → Kept k
-  kept-before k k< k<a = go (ltb k start) refl
+  -- The entry of a column before a or from b on is kept.
+  kept : (k : ℕ) → k < 240 → (k < a) ⊎ (b ≤ k)
+      → putPixel (s .objmode) (s .priority) (color k) (cellAt entryCells entries k) ≡ cellAt entryCells entries k
+  kept k k< closed = go (lies start end k) closed
     where
-      go : (t : Bool) → ltb k start ≡ t → Kept k
-      go true t = kept-outside k k< (between-before start end k (ltb-true k start t))
-      go false t = putPixel-passed (s .objmode) (s .priority) (color k) _ (first .passed k (ltb-false k start t) k<a)
-
-  kept-past : (k : ℕ) → k < 240 → b ≤ k → Kept k
-  kept-past k k< k≥b = go (ltb k end) refl
-    where
-      go : (t : Bool) → ltb k end ≡ t → Kept k
-      go true t = putPixel-passed (s .objmode) (s .priority) (color k) _ (last .passed k k≥b (ltb-true k end t))
-      go false t = kept-outside k k< (between-past start end k (ltb-false k end t))
+      go : Lies start end k → (k < a) ⊎ (b ≤ k)
+          → putPixel (s .objmode) (s .priority) (color k) (cellAt entryCells entries k) ≡ cellAt entryCells entries k
+      go (before h) closed = rw (none k k< (between-before start end k h)) (putPixel-transparent (s .objmode) (s .priority) _)
+      go (past h) closed = rw (none k k< (between-past start end k h)) (putPixel-transparent (s .objmode) (s .priority) _)
+      go (inside from to) (inl k<a) = putPixel-passed (s .objmode) (s .priority) (color k) _ (first .passed k from k<a)
+      go (inside from to) (inr k≥b) = putPixel-passed (s .objmode) (s .priority) (color k) _ (last .passed k k≥b to)
 
   -- Where no column is left between, the row stays.
   pub putRow-closed : AllBytes entries → b ≤ a → entries ≡ putRow s color entries
-  putRow-closed bytes b≤a = mapRow-kept _ entries bytes (λ k k<. go k k< (ltb k a) refl)
+  putRow-closed bytes b≤a = mapRow-kept _ entries bytes (λ k k<. kept k k< (go k (lies a b k)))
     where
-      go : (k : ℕ) → k < 240 → (t : Bool) → ltb k a ≡ t → Kept k
-      go k k< true t = kept-before k k< (ltb-true k a t)
-      go k k< false t = kept-past k k< (omega (arith, ltb-false k a t))
+      go : (k : ℕ) → Lies a b k → (k < a) ⊎ (b ≤ k)
+      go k (before h) = inl h
+      go k (inside from to) = absurd (omega arith)
+      go k (past h) = inr h
 
   -- Where the sprite's colours are put in the columns between, all its pixels are put.
   pub putRow-open : (colors : List Rgb15) (left : ℕ) {m : List ℕ} → length entries ≡ 960
@@ -164,16 +164,11 @@ module _ (s : ObjAttrs) (color : ℕ → ℕ) (entries : List ℕ) {start end a 
       → Each (λ k. getD colors (k + 272 - left) (rgb 0) .0 ≡ color k) a b
       → m ≡ putRow s color entries
   putRow-open colors left size put-is same =
-      put-is ∙ mapRow-ext entryCells _ _ 240 entries size (λ k k<. go k k< (ltb k a) (ltb k b) refl refl)
+      put-is ∙ mapRow-ext entryCells _ _ 240 entries size (λ k k<. go k k< (lies a b k))
     where
-      go : (k : ℕ) → k < 240 → (t u : Bool) → ltb k a ≡ t → ltb k b ≡ u
+      go : (k : ℕ) → k < 240 → Lies a b k
           → only (between a b) (boxPixel (s .objmode) (s .priority) colors left) k (cellAt entryCells entries k)
           ≡ putPixel (s .objmode) (s .priority) (color k) (cellAt entryCells entries k)
-      go k k< true u t h =
-          let before = ltb-true k a t in rw (between-before a b k before) (sym (kept-before k k< before))
-      go k k< false true t h =
-          let from = ltb-false k a t in
-          let to = ltb-true k b h in
-          rw (between-inside a b k from to, same k from to)
-      go k k< false false t h =
-          let past = ltb-false k b h in rw (between-past a b k past) (sym (kept-past k k< past))
+      go k k< (before h) = rw (between-before a b k h) (sym (kept k k< (inl h)))
+      go k k< (inside from to) = rw (between-inside a b k from to, same k from to)
+      go k k< (past h) = rw (between-past a b k h) (sym (kept k k< (inr h)))

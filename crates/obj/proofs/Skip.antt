@@ -64,9 +64,10 @@ passedOver-closed ObjMode.Sfx priority e one closed = le-leb (e .priority) prior
 passedOver-closed ObjMode.Window priority e one closed = absurd (miss (0 ∷ 1 ∷ []) 2 tt one)
 passedOver-closed ObjMode.Forbidden priority e one closed = le-leb (e .priority) priority closed
 
--- What a walk over closed columns from both ends leaves.
+-- Walks over closed columns are walks over columns at which the sprite is passed over.
 module _ (entries : List ℕ) (s : ObjAttrs) (one : OneOf (0 ∷ 1 ∷ []) (tagOf the-type (s .objmode))) where
-  pub walked-closed : {a b c r : ℕ} → Walked (Closed entries (s .priority)) a b r → r ≤ c → Walked (PassedOver entries s) a c r
+  pub walked-closed : {a b c r : ℕ} → Walked (Closed entries (s .priority)) a b r → r ≤ c
+      → Walked (PassedOver entries s) a c r
   walked-closed w h =
       record {
         from = w .from;

@@ -36,8 +36,10 @@ module _ (priority color : ℕ) (e : Entry) where
   windowMark-put : (mode : ObjMode) (clear : Bool) → isTransparent color ≡ clear
       → windowMark (putPixel mode priority color e) ≡ (windowMark e || (isWindow mode && not clear))
   unfolding putPixel passedOver written isWindow
-  windowMark-put ObjMode.Normal clear t = windowMark-other (shownBy false priority color e) (windowMark-shownBy false priority color e)
-  windowMark-put ObjMode.Sfx clear t = windowMark-other (shownBy true priority color e) (windowMark-shownBy true priority color e)
+  windowMark-put ObjMode.Normal clear t =
+      windowMark-other (shownBy false priority color e) (windowMark-shownBy false priority color e)
+  windowMark-put ObjMode.Sfx clear t =
+      windowMark-other (shownBy true priority color e) (windowMark-shownBy true priority color e)
   windowMark-put ObjMode.Window true t = rw t (sym (or-false (windowMark e)))
   windowMark-put ObjMode.Window false t = rw t (windowMark-windowed e ∙ sym (or-true (windowMark e)))
   windowMark-put ObjMode.Forbidden clear t = windowMark-other e refl

@@ -92,7 +92,8 @@ boxPixel mode priority colors left column = putPixel mode priority (getD colors 
 
 -- The row with the colours of a box put in the columns from start up to end.
 abbrev pub putBox : ObjMode → ℕ → List Rgb15 → ℕ → ℕ → ℕ → List ℕ → List ℕ
-putBox mode priority colors left start end = mapRow entryCells (only (between start end) (boxPixel mode priority colors left)) 240
+putBox mode priority colors left start end =
+    mapRow entryCells (only (between start end) (boxPixel mode priority colors left)) 240
 
 -- ---- what is passed by
 

@@ -90,7 +90,11 @@ module _ (w : ℕ) where
       let clear = eqb-false (w / 0x1000000 / 1 % 2) 1 semi-is in
       rw (eq-eqb (w - 0x2000000 * (w / 0x2000000 % 2)) 0x48000 (omega arith))
   word-shape (shown marks≤ priority≤ color≤) =
-      rw (eq-eqb (w / 0x8000 % 2) 0 (omega arith), eq-eqb (w / 0x40000 % 0x40) 0 (omega arith), eq-eqb (w / 0x4000000) 0 (omega arith))
+      rw (
+        eq-eqb (w / 0x8000 % 2) 0 (omega arith),
+        eq-eqb (w / 0x40000 % 0x40) 0 (omega arith),
+        eq-eqb (w / 0x4000000) 0 (omega arith),
+      )
       (or-true isBlankWord)
 
   -- A word's tests are those of its entry.

@@ -9,8 +9,9 @@ use Rattle.obj.proofs.open_columns.Tie as tie
 tested : tie.Need-returns
 tested c =
     let matched = c .before .before in
-    let at = matched .before .before .args in (
-      walked-closed (at .entries .now) (at .attrs) (matched .match .keys1) (c .before .first-open .ensures) (c .last-open .ensures .from),
+    let at = matched .before .before .args in
+    let first = c .before .first-open in (
+      walked-closed (at .entries .now) (at .attrs) (matched .match .keys1) (first .ensures) (c .last-open .ensures .from),
       walkedBack-closed (at .entries .now) (at .attrs) (matched .match .keys1) (c .last-open .ensures),
     )
 

@@ -19,8 +19,8 @@ placed c = c .before .before .before .before .before
 abbrev start : tie.After-open-columns → tie.Start
 start c = placed c .before .before .before .before
 
-flip-requires : tie.Need-flip-requires
-flip-requires c κs =
+in-height : tie.Need-flip-requires
+in-height c κs =
     let begun = start (c .before .before .before) in
     omega (arith, boxed-normal (begun .args .attrs .height) (begun .pre .type-is))
 
@@ -51,7 +51,7 @@ render-normal-obj-spec =
     (search needs)
     closed
     (λ c κs. search needs)
-    flip-requires
+    in-height
     (λ c κs. search needs)
     (search needs)
     (search needs)

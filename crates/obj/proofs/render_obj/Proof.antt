@@ -36,14 +36,16 @@ normal : tie.Need-returns-2
 normal c =
     let drew = c .before .before in
     let told = drew .before .before in
-    rw (sym (told .before .before .read-obj-attrs .ensures .0), typedColor-normal _ _ _ _ _ _ _ _ (told .enum-told2 .given .1))
+    let read = told .before .before .read-obj-attrs in
+    rw (sym (read .ensures .0), typedColor-normal _ _ _ _ _ _ _ _ (told .enum-told2 .given .1))
     (drew .render-normal-obj .ensures)
 
 affine : tie.Need-returns-3
 affine c =
     let drew = c .before .before in
     let matched = drew .before .before in
-    rw (sym (matched .before .read-obj-attrs .ensures .0), typedColor-affine _ _ _ _ _ _ _ _ (matched .match .keys3))
+    let read = matched .before .read-obj-attrs in
+    rw (sym (read .ensures .0), typedColor-affine _ _ _ _ _ _ _ _ (matched .match .keys3))
     (drew .render-affine-obj .ensures)
 
 pub render-obj-spec : {M : Type 1} → statement M

@@ -15,11 +15,12 @@ Inv-loop entries faults₀ k₀ faults k = Summed (faultAt entries) 240 1 k faul
 abbrev μ-loop : tie.MeasureT-loop
 μ-loop entries faults₀ k₀ faults k = 240 - k
 
-loop-again : tie.Need-loop-again Inv-loop μ-loop
-loop-again c =
+counted : tie.Need-loop-again Inv-loop μ-loop
+counted c =
     let turn = c .before .before in
+    let bytes = turn .before .before .shared-slice-known .given in
     summed-more (turn .before .loop .inv) (search needs) (search needs)
-    (rw (← entry-of-word _ (turn .before .before .shared-slice-known .given) _ (c .before .word-at .ensures)) (c .fault .ensures .0))
+    (rw (← entry-of-word _ bytes _ (c .before .word-at .ensures)) (c .fault .ensures .0))
 
 pub shaped-row-spec : {M : Type 1} → statement M
 shaped-row-spec =
@@ -33,5 +34,5 @@ shaped-row-spec =
     (search needs)
     (search needs)
     (search needs)
-    loop-again
+    counted
     (λ c. ap (λ n. eqb n 0) (summed-all (c .before .loop .inv) (search needs)) ∙ shapedRow-faults _))

@@ -7,8 +7,8 @@ use Rattle.obj_sprites.proofs.Decode.{objAttrs-ext}
 use Rattle.obj_sprites.proofs.attrs.ObjAttrs.from.Statement.{statement}
 use Rattle.obj_sprites.proofs.attrs.ObjAttrs.from.Tie as tie
 
-returns : tie.Need-returns
-returns c =
+fields : tie.Need-returns
+fields c =
     let typed = c .before .before in
     let size = typed .before .from .ensures in (
       objAttrs-ext _ _
@@ -32,4 +32,4 @@ from-spec =
     (search needs)
     (search needs)
     (search needs)
-    returns)
+    fields)

@@ -1,4 +1,4 @@
--- obj_sprites::attrs::ObjAttrs::is_drawn meets its contract: its tests are those of drawn, and each that returns early settles it.
+-- obj_sprites::attrs::ObjAttrs::is_drawn meets its contract: its tests are those of drawn, and each early one settles it.
 -- Assumes nothing.
 use borrow.Author.Needs.{needs}
 use Rattle.obj_sprites.proofs.Drawn.{drawn-hidden, drawn-outside, drawn-is}

@@ -3,7 +3,6 @@
 use Prim.Native.Nat.{_+_, _*_}
 use native.Mathlib.Omega.{arith}
 use borrow.Author.Needs.{needs}
-use mathlib.Core.Path.{_≡_}
 use Rattle.obj_sprites.specs.Size.{widths, heights, objWidth, objHeight}
 use Rattle.obj_sprites.proofs.Decode.{size-is, noneBelow-bound}
 use Rattle.obj_sprites.proofs.attrs.ObjSize.from.Statement.{statement}
@@ -12,9 +11,8 @@ use Rattle.obj_sprites.proofs.attrs.ObjSize.from.Tie as tie
 last : tie.Need-returns-16
 unfolding widths heights objWidth objHeight
 last c =
-    let at = c .before .args in
-    let n-is : 4 * at .shape + at .size ≡ 15 = omega (arith, noneBelow-bound 15 (4 * at .shape + at .size) (c .match .rest)) in
-    size-is 15 (c .before .pre) n-is
+    let n = 4 * c .before .args .shape + c .before .args .size in
+    size-is 15 (c .before .pre) (omega (arith, noneBelow-bound 15 n (c .match .rest)))
 
 pub from-spec : {M : Type 1} → statement M
 unfolding widths heights objWidth objHeight
