@@ -3,7 +3,7 @@
 use Prim.Native.Nat.{ℕ, zero, suc, _≤_, _<_}
 use native.Mathlib.Omega.{arith}
 use mathlib.Core.Path.{_≡_, refl, ap, _∙_}
-use mathlib.Core.Bool.{Bool, true, false, not, cond, _&&_, _||_, or-true, or-false}
+use mathlib.Core.Bool.{Bool, true, false, not, cond, _&&_, or-true, or-false, and-false}
 use mathlib.Core.List.{List, [], _∷_, _++_, append-nil, append-assoc}
 use mathlib.Core.List.{List·Memᴰ, List·Memᴰ·head, List·Memᴰ·not-nil, List·Memᴰ·append-cases, List·Memᴰ·eq-of-singleton}
 use mathlib.Core.List.{Memᴰ·append-left, Memᴰ·append-right}
@@ -19,6 +19,7 @@ use Rattle.obj_sprites.specs.declared.attrs.ObjMode.{ObjMode}
 use Rattle.obj_entries.specs.declared.Entry.{Entry}
 use Rattle.obj_sprites.proofs.Decode.{priority-bound}
 use Rattle.obj.proofs.Before.{Earlier, isBefore-priority, isBefore-earlier, isBefore-le}
+use Rattle.obj.proofs.Pixels.{putPixel-forbidden}
 use Rattle.obj.proofs.Marks.{semi-put-same, semi-put-other}
 
 -- ---- one pixel more
@@ -68,10 +69,6 @@ module _ (ps : List Pixel) (e : Entry) (q : Pixel) where
 
 -- ---- one sprite more
 
-cond-same : {A : Type 0} (t : Bool) (a : A) → cond t a a ≡ a
-cond-same true a = refl
-cond-same false a = refl
-
 -- A pixel q of a sprite that is ordinary or semi-transparent.
 module _ (ps : List Pixel) (e : Entry) (q : Pixel) where
   abbrev shown : Entry
@@ -116,32 +113,29 @@ module _ (ps : List Pixel) (e : Entry) (i n priority color : ℕ)
   holds-put : (mode : ObjMode) (clear : Bool) → isTransparent color ≡ clear
       → Holds (ps ++ cond (isVisible mode && not (isTransparent color)) (pixelBy mode ∷ []) []) (putPixel mode priority color e)
   unfolding putPixel passedOver written isVisible isSemi
-  holds-put ObjMode.Normal true t = rw (t, or-true (leb (e .priority) priority), append-nil ps) holds
+  holds-put mode true t =
+      rw (t, or-true (passedOver mode priority e), and-false (isVisible mode), append-nil ps) holds
   holds-put ObjMode.Normal false t =
-      rw (t, or-false (leb (e .priority) priority))
-      (holds-shown ps e (pixelBy ObjMode.Normal) holds earlier priority≤)
-  holds-put ObjMode.Sfx true t = rw (t, or-true (leb (e .priority) priority), append-nil ps) holds
+      rw (t, or-false (leb (e .priority) priority)) (holds-shown ps e (pixelBy ObjMode.Normal) holds earlier priority≤)
   holds-put ObjMode.Sfx false t =
-      rw (t, or-false (leb (e .priority) priority))
-      (holds-shown ps e (pixelBy ObjMode.Sfx) holds earlier priority≤)
-  holds-put ObjMode.Window true t = rw (t, append-nil ps) holds
+      rw (t, or-false (leb (e .priority) priority)) (holds-shown ps e (pixelBy ObjMode.Sfx) holds earlier priority≤)
   holds-put ObjMode.Window false t = rw (t, append-nil ps) (holds-windowed ps e holds)
-  holds-put ObjMode.Forbidden clear t =
-      rw (append-nil ps, cond-same (leb (e .priority) priority || isTransparent color) e) holds
+  holds-put ObjMode.Forbidden false t =
+      rw (append-nil ps, putPixel-forbidden priority color e) holds
 
-  earlier-put : (visible : Bool) (q : Pixel) → q .draw ≡ i → q .sprite ≡ n
-      → AllEarlier i (suc n) (ps ++ cond visible (q ∷ []) [])
-  earlier-put visible q draw-is sprite-is p m =
-      ⊎-elim
-      (λ in-ps. ⊎-elim inl (λ same. inr (same .0, omega (arith, same .1))) (earlier p in-ps))
-      (λ last. go visible last)
-      (List·Memᴰ·append-cases ps m)
-    where
-      go : (b : Bool) → List·Memᴰ p (cond b (q ∷ []) []) → Earlier i (suc n) p
-      go true last =
-          let same = List·Memᴰ·eq-of-singleton last in
-          inr (ap (λ x. x .draw) same ∙ draw-is, omega (arith, ap (λ x. x .sprite) same))
-      go false last = absurd (List·Memᴰ·not-nil last)
+-- A pixel that is put last is earlier than the next sprite is.
+earlier-put : (ps : List Pixel) (q : Pixel) (visible : Bool) → AllEarlier (q .draw) (q .sprite) ps
+    → AllEarlier (q .draw) (suc (q .sprite)) (ps ++ cond visible (q ∷ []) [])
+earlier-put ps q visible earlier p m =
+    ⊎-elim
+    (λ in-ps. ⊎-elim inl (λ same. inr (same .0, omega (arith, same .1))) (earlier p in-ps))
+    (λ last. go visible last)
+    (List·Memᴰ·append-cases ps m)
+  where
+    go : (b : Bool) → List·Memᴰ p (cond b (q ∷ []) []) → Earlier (q .draw) (suc (q .sprite)) p
+    go true last =
+        let same = List·Memᴰ·eq-of-singleton last in inr (ap (λ x. x .draw) same, omega (arith, ap (λ x. x .sprite) same))
+    go false last = absurd (List·Memᴰ·not-nil last)
 
 -- ---- the sprites of a draw
 
@@ -164,9 +158,7 @@ module _ (column : ℕ) where
         holds =
             holds-put ps e i n (s .priority) color (held .holds) (held .earlier) (priority-bound _)
             (s .objmode) (isTransparent color) refl;
-        earlier =
-            earlier-put ps e i n (s .priority) color (held .holds) (held .earlier) (priority-bound _)
-            (isVisible (s .objmode) && not (isTransparent color)) _ refl refl;
+        earlier = earlier-put ps (pixelOf i d n column) (isVisible (s .objmode) && not (isTransparent color)) (held .earlier);
       }
 
   -- The first n sprites of draw number i.

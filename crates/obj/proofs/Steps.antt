@@ -1,19 +1,20 @@
 -- Laws of the pass: a pass for each sprite over all columns is, at each column, a run through the sprites.
 -- No contract cites this file. Assumes nothing.
-use Prim.Native.Nat.{ℕ, zero, suc, _+_, _-_, _≤_, _<_}
+use Prim.Native.Nat.{ℕ, zero, suc, _+_, _≤_, _<_}
+use native.Mathlib.Nat.{eq-or-lt-of-le}
 use native.Mathlib.Numerals.{add-one}
 use native.Mathlib.Omega.{arith}
 use mathlib.Core.Path.{_≡_, refl, sym, ap, _∙_}
 use mathlib.Core.Bool.{true, false}
 use mathlib.Core.List.{List, [], _∷_}
-use lib.ListN.{length, getD}
-use mir.Syntax.{w8}
-use mir.Val.{Fits}
+use mathlib.Core.Logic.{⊎-elim}
+use lib.ListN.{length}
 use denote.Enum.Declared.{tagOf}
 use types.Run.{OneOf, miss}
+use Rattle.rgb15.specs.Colour.{transparent}
 use Rattle.rows.specs.Cells.{mapRow}
 use Rattle.rows.proofs.Cells.{mapRow-all, mapRow-cong}
-use Rattle.rows.proofs.Passed.{Composed, composed-none, composed-more}
+use Rattle.rows.proofs.Passed.{Composed, composed-none, composed-more, composed-all}
 use Rattle.memory.specs.Memory.{Memory}
 use Rattle.regs.specs.Registers.{dispcnt}
 use Rattle.regs.specs.Display.{DisplayControlOf, objMapping}
@@ -22,40 +23,44 @@ use Rattle.regs.specs.declared.ObjMapping.{ObjMapping}
 use Rattle.regs.specs.declared.reading.Reading.{Reading}
 use Rattle.obj_sprites.specs.Oam.{matrix}
 use Rattle.obj_sprites.specs.Attrs.{sprite}
-use Rattle.obj_sprites.specs.Color.{affineObjColor}
+use Rattle.obj_sprites.specs.Color.{normalColor, affineObjColor}
 use Rattle.obj_sprites.specs.Tiles.{tilesStart}
 use Rattle.obj_sprites.specs.Sprite.{Source, source, drawn, typedColor, spriteColor}
 use Rattle.obj_entries.specs.Entry.{entryCells}
-use Rattle.obj.specs.Put.{putPixel, spriteStep, entryUpTo, putSprites}
-use Rattle.obj.specs.Code.{putRow, NoneDrawn, NextDrawn}
+use Rattle.obj.specs.Put.{spriteStep, entryUpTo, putSprites}
+use Rattle.obj.specs.Code.{OnLine, putRow, Each, NotDrawn, NextDrawn}
 use Rattle.obj_sprites.specs.declared.attrs.ObjAttrs.{ObjAttrs}
 use Rattle.obj_sprites.specs.declared.attrs.ObjType.{ObjType}
 use Rattle.obj_entries.specs.declared.Entry.{Entry}
 use Rattle.obj_sprites.proofs.attrs.ObjType.{the-type}
-use Rattle.obj_entries.proofs.Entries.{exact-entryCells}
+use Rattle.obj_entries.proofs.Entries.{AllBytes, exact-entryCells}
 use Rattle.obj.proofs.Pixels.{putPixel-transparent}
 
--- The colours of a sprite that was read, by its type.
-pub putRow-typed : (reading : Reading) (mapping : ObjMapping) (vram palette oam : List ℕ) (line : ℕ) (entries : List ℕ)
-    {s t : ObjAttrs} {type : ObjType} {m : List ℕ} → s ≡ t → s .objtype ≡ type
-    → m ≡ putRow s (typedColor type reading mapping vram palette oam s line) entries
-    → m ≡ putRow t (typedColor (t .objtype) reading mapping vram palette oam t line) entries
-putRow-typed reading mapping vram palette oam line entries {s} s-is type-is put-is =
-    put-is
-    ∙ ap (λ type. putRow s (typedColor type reading mapping vram palette oam s line) entries) (sym type-is)
-    ∙ ap (λ s. putRow s (typedColor (s .objtype) reading mapping vram palette oam s line) entries) s-is
+-- A sprite that was read has the line in its box.
+pub onLine-read : (reading : Reading) {s t : ObjAttrs} (line : ℕ) → s ≡ t → OnLine reading t line → OnLine reading s line
+onLine-read reading line s-is on-line = rw s-is on-line
 
--- Both affine types have the colours of affine sprites; their numbers among the variants are 1 and 3.
-pub putRow-affine : (reading : Reading) (mapping : ObjMapping) (vram palette oam : List ℕ) (s : ObjAttrs) (line : ℕ)
-    (entries : List ℕ)
-    (type : ObjType) {m : List ℕ} → OneOf (1 ∷ 3 ∷ []) (tagOf the-type type)
-    → m ≡ putRow s (affineObjColor reading mapping vram palette (matrix oam (s .«affine_index»)) s line) entries
-    → m ≡ putRow s (typedColor type reading mapping vram palette oam s line) entries
-unfolding typedColor
-putRow-affine reading mapping vram palette oam s line entries ObjType.Normal one put-is = absurd (miss (1 ∷ 3 ∷ []) 0 tt one)
-putRow-affine reading mapping vram palette oam s line entries ObjType.Affine one put-is = put-is
-putRow-affine reading mapping vram palette oam s line entries ObjType.Hidden one put-is = absurd (miss (1 ∷ 3 ∷ []) 2 tt one)
-putRow-affine reading mapping vram palette oam s line entries ObjType.AffineDoubleSize one put-is = put-is
+-- The colours of a sprite, by its type.
+module _ (reading : Reading) (mapping : ObjMapping) (vram palette oam : List ℕ) (s : ObjAttrs) (line : ℕ) where
+  pub typedColor-hidden : (type : ObjType) → type ≡ ObjType.Hidden
+      → typedColor type reading mapping vram palette oam s line ≡ λ _. transparent
+  unfolding typedColor
+  typedColor-hidden type type-is = rw type-is
+
+  pub typedColor-normal : (type : ObjType) → type ≡ ObjType.Normal
+      → typedColor type reading mapping vram palette oam s line ≡ normalColor reading mapping vram palette s line
+  unfolding typedColor
+  typedColor-normal type type-is = rw type-is
+
+  -- Both affine types, whose numbers among the variants are 1 and 3.
+  pub typedColor-affine : (type : ObjType) → OneOf (1 ∷ 3 ∷ []) (tagOf the-type type)
+      → typedColor type reading mapping vram palette oam s line
+      ≡ affineObjColor reading mapping vram palette (matrix oam (s .«affine_index»)) s line
+  unfolding typedColor
+  typedColor-affine ObjType.Normal one = absurd (miss (1 ∷ 3 ∷ []) 0 tt one)
+  typedColor-affine ObjType.Affine one = refl
+  typedColor-affine ObjType.Hidden one = absurd (miss (1 ∷ 3 ∷ []) 2 tt one)
+  typedColor-affine ObjType.AffineDoubleSize one = refl
 
 module _ (reading : Reading) (o : Source) (line n : ℕ) where
   -- The colours of a sprite that is drawn.
@@ -69,18 +74,12 @@ module _ (reading : Reading) (o : Source) (line n : ℕ) where
   unfolding spriteStep spriteColor
   spriteStep-none out column e = rw out (putPixel-transparent _ _ e)
 
-  -- One that is drawn puts its colour.
-  spriteStep-drawn : drawn reading (o .start) (sprite (o .oam) n) line ≡ true
-      → (column : ℕ) (e : Entry)
-      → putPixel (sprite (o .oam) n .objmode) (sprite (o .oam) n .priority) (drawnColor column) e
-      ≡ spriteStep reading o line n column e
-  unfolding spriteStep spriteColor
-  spriteStep-drawn d column e = rw d
-
-  step-drawn : (l : List ℕ) {m : List ℕ} → drawn reading (o .start) (sprite (o .oam) n) line ≡ true
+  -- One that is drawn puts its colours.
+  mapRow-drawn : (l : List ℕ) {m : List ℕ} → drawn reading (o .start) (sprite (o .oam) n) line ≡ true
       → m ≡ putRow (sprite (o .oam) n) drawnColor l
       → m ≡ mapRow entryCells (spriteStep reading o line n) 240 l
-  step-drawn l d put-is = put-is ∙ mapRow-cong entryCells _ _ 240 l (λ k k< e. spriteStep-drawn d k e)
+  unfolding spriteStep spriteColor
+  mapRow-drawn l d put-is = put-is ∙ mapRow-cong entryCells _ _ 240 l (λ k k< e. rw d)
 
 module _ (reading : Reading) (o : Source) (line : ℕ) where
   entryUpTo-none : (column : ℕ) (e : Entry) → entryUpTo reading o line 0 column e ≡ e
@@ -92,24 +91,19 @@ module _ (reading : Reading) (o : Source) (line : ℕ) where
   unfolding entryUpTo
   entryUpTo-more n column e = ap (λ k. entryUpTo reading o line k column e) (sym (add-one n))
 
-  -- Sprites that are not drawn change nothing: n of them from a on, and those from a up to b.
-  entryUpTo-idle : (a n column : ℕ) (e : Entry) → NoneDrawn reading (o .start) (o .oam) line a (a + n)
-      → entryUpTo reading o line a column e ≡ entryUpTo reading o line (a + n) column e
-  unfolding entryUpTo
-  entryUpTo-idle a zero column e none =
-      let same : a ≡ a + 0 = omega arith in ap (λ k. entryUpTo reading o line k column e) same
-  entryUpTo-idle a (suc n) column e none =
-      let next : suc (a + n) ≡ a + suc n = omega arith in
-      entryUpTo-idle a n column e (λ k from to. none k from (omega arith))
-      ∙ sym (spriteStep-none reading o line (a + n) (none (a + n) (omega arith) (omega arith)) column _)
-      ∙ ap (λ k. entryUpTo reading o line k column e) next
-
-  entryUpTo-rest : (a b column : ℕ) (e : Entry) → a ≤ b → NoneDrawn reading (o .start) (o .oam) line a b
+  -- Sprites that are not drawn change nothing.
+  entryUpTo-idle : (a b column : ℕ) (e : Entry) → a ≤ b → Each (NotDrawn reading (o .start) (o .oam) line) a b
       → entryUpTo reading o line a column e ≡ entryUpTo reading o line b column e
-  entryUpTo-rest a b column e h none =
-      let end : a + (b - a) ≡ b = omega arith in
-      entryUpTo-idle a (b - a) column e (λ k from to. none k from (omega arith))
-      ∙ ap (λ k. entryUpTo reading o line k column e) end
+  unfolding entryUpTo
+  entryUpTo-idle a zero column e h none =
+      let same : a ≡ 0 = omega arith in ap (λ k. entryUpTo reading o line k column e) same
+  entryUpTo-idle a (suc b) column e h none =
+      ⊎-elim
+      (λ same. ap (λ k. entryUpTo reading o line k column e) same)
+      (λ a<.
+      entryUpTo-idle a b column e (omega arith) (λ k from to. none k from (omega arith))
+      ∙ sym (spriteStep-none reading o line b (none b (omega arith) (omega arith)) column _))
+      (eq-or-lt-of-le h)
 
   -- What the sprites before number n made of each column; sprite n, if there is one, is drawn.
   pub record SpritesUpTo (l₀ : List ℕ) (n : ℕ) (l : List ℕ) : Type 0 where
@@ -124,15 +118,18 @@ module _ (reading : Reading) (o : Source) (line : ℕ) where
       record {
         composed =
             record {
-              bound = next .1;
+              bound = next .walked .to;
               size = p .size;
-              made = p .made ∙ mapRow-cong entryCells _ _ 240 l₀ (λ k k< e. entryUpTo-rest a b k e (next .0) (next .2));
+              made =
+                  p .made
+                  ∙ mapRow-cong entryCells _ _ 240 l₀
+                  (λ k k< e. entryUpTo-idle a b k e (next .walked .from) (next .walked .passed));
             };
-        next = next .3;
+        next = next .next;
       }
 
   -- Where the pass begins: the first sprites are passed by up to a.
-  pub sprites-first : {a : ℕ} {l : List ℕ} → length l ≡ 960 → ((i : ℕ) → Fits w8 (getD l i 0))
+  pub sprites-first : {a : ℕ} {l : List ℕ} → length l ≡ 960 → AllBytes l
       → NextDrawn reading (o .start) (o .oam) line 0 a
       → SpritesUpTo l a l
   sprites-first {l = l} size bytes next =
@@ -146,7 +143,7 @@ module _ (reading : Reading) (o : Source) (line : ℕ) where
   sprites-next {a} p a< put-is next =
       sprites-skip
       (composed-more entryCells (spriteStep reading o line a) (p .composed) a<
-      (step-drawn reading o line a _ (p .next a<) put-is)
+      (mapRow-drawn reading o line a _ (p .next a<) put-is)
       (λ k k< e. entryUpTo-more a k e))
       next
 
@@ -167,11 +164,11 @@ source-is m read mapping-is start-is =
       start = (start-is ∙ ap tilesStart (read .mode-is)) i;
     }
 
--- What the pass made of each column is the row after it.
-pub putSprites-is : (reading : Reading) {o p : Source} (line : ℕ) (entries : List ℕ) {m : List ℕ} → length entries ≡ 960
-    → m ≡ mapRow entryCells (entryUpTo reading o line 128) 240 entries → o ≡ p
-    → m ≡ putSprites reading p line entries
-putSprites-is reading {o} {p} line entries size made source =
-    made
-    ∙ mapRow-all entryCells (entryUpTo reading o line 128) 240 entries size
-    ∙ ap (λ o. putSprites reading o line entries) source
+-- Where the pass ends: what it made of each column is the row after it.
+pub sprites-all : (reading : Reading) {o p : Source} (line : ℕ) {n : ℕ} {l₀ l : List ℕ} → SpritesUpTo reading o line l₀ n l
+    → 128 ≤ n → length l₀ ≡ 960 → o ≡ p
+    → l ≡ putSprites reading p line l₀
+sprites-all reading {o} line {l₀ = l₀} p n≥ size o-is =
+    composed-all entryCells (p .composed) n≥
+    ∙ mapRow-all entryCells (entryUpTo reading o line 128) 240 l₀ size
+    ∙ ap (λ o. putSprites reading o line l₀) o-is

@@ -12,6 +12,7 @@ use Rattle.obj.specs.Put.{passedOver, shownBy, windowed, written, putPix
 use Rattle.obj.specs.Order.{Draw, isOpaque, windowUpTo}
 use Rattle.obj_sprites.specs.declared.attrs.ObjMode.{ObjMode}
 use Rattle.obj_entries.specs.declared.Entry.{Entry}
+use Rattle.obj_sprites.proofs.Booleans.{cond-both}
 use Rattle.obj.proofs.Marks.{window-put-same, window-put-other}
 
 -- A pixel that is shown leaves the window mark.
@@ -24,27 +25,24 @@ windowMark-windowed : (e : Entry) → windowMark (windowed e) ≡ true
 unfolding windowed
 windowMark-windowed e = window-put-same (e .marks)
 
-cond-either : {A B : Type 0} (f : A → B) (t : Bool) (a b : A) → f b ≡ f a → f (cond t a b) ≡ f a
-cond-either f true a b e = refl
-cond-either f false a b e = e
-
 module _ (priority color : ℕ) (e : Entry) where
+  -- A pixel that leaves the mark, shown or not.
+  windowMark-other : (f : Entry) → windowMark f ≡ windowMark e
+      → windowMark (cond (leb (e .priority) priority || isTransparent color) e f) ≡ (windowMark e || false)
+  windowMark-other f same =
+      cond-both (λ f. windowMark f ≡ windowMark e) (leb (e .priority) priority || isTransparent color) refl same
+      ∙ sym (or-false (windowMark e))
+
   windowMark-put : (mode : ObjMode) (clear : Bool) → isTransparent color ≡ clear
       → windowMark (putPixel mode priority color e) ≡ (windowMark e || (isWindow mode && not clear))
   unfolding putPixel passedOver written isWindow
   windowMark-put ObjMode.Normal clear t =
-      cond-either windowMark (leb (e .priority) priority || isTransparent color) e _
-      (windowMark-shownBy false priority color e)
-      ∙ sym (or-false (windowMark e))
+      windowMark-other (shownBy false priority color e) (windowMark-shownBy false priority color e)
   windowMark-put ObjMode.Sfx clear t =
-      cond-either windowMark (leb (e .priority) priority || isTransparent color) e _
-      (windowMark-shownBy true priority color e)
-      ∙ sym (or-false (windowMark e))
+      windowMark-other (shownBy true priority color e) (windowMark-shownBy true priority color e)
   windowMark-put ObjMode.Window true t = rw t (sym (or-false (windowMark e)))
   windowMark-put ObjMode.Window false t = rw t (windowMark-windowed e ∙ sym (or-true (windowMark e)))
-  windowMark-put ObjMode.Forbidden clear t =
-      cond-either windowMark (leb (e .priority) priority || isTransparent color) e e refl
-      ∙ sym (or-false (windowMark e))
+  windowMark-put ObjMode.Forbidden clear t = windowMark-other e refl
 
 module _ (column : ℕ) where
   windowMark-sprite : (d : Draw) (n : ℕ) (e : Entry)

@@ -1,21 +1,23 @@
 // The pass over sprites (gpu/render/obj.rs): which of their pixels a row of entries shows.
 ghost use mathlib.Core.Path.{_≡_};
-ghost use mathlib.Core.Bool.{true, cond};
-ghost use Prim.Native.Nat.{_+_, _-_, _%_, _≤_, _<_, min};
+ghost use mathlib.Core.Bool.{cond};
+ghost use Prim.Native.Nat.{_-_, _<_, min};
 ghost use lib.ListN.{length};
 ghost use Rattle.memory.specs.Sizes.{videoRamSize, paletteRamSize, oamSize, registersSize};
 ghost use Rattle.obj_entries.specs.Entry.{entriesSize};
 ghost use Rattle.obj_sprites.specs.Oam.{matrix};
-ghost use Rattle.obj_sprites.specs.Attrs.{sprite, Decoded};
-ghost use Rattle.obj_sprites.specs.Place.{onLine};
+ghost use Rattle.obj_sprites.specs.Attrs.{sprite};
 ghost use Rattle.obj_sprites.specs.Color.{normalColor, affineObjColor};
 ghost use Rattle.obj_sprites.specs.Sprite.{source, typedColor};
 ghost use Rattle.obj.specs.Put.{shownBy, windowed, putSprites};
-ghost use Rattle.obj.specs.Code.{putColumn, putRow, putBox, Closed, AllPassedOver, NextDrawn};
+ghost use Rattle.obj.specs.Code.{Columns, BoxColumns, NormalReady, AffineReady, ObjReady, NextReady};
+ghost use Rattle.obj.specs.Code.{putColumn, putRow, putBox};
+ghost use Rattle.obj.specs.Code.{Walked, WalkedBack, Closed, PassedOver, NextDrawn};
 use memory::DISPLAY_WIDTH;
 use obj_entries::Entry;
 use obj_entries::entry_at;
 use obj_entries::put_unless;
+use obj_sprites::BOX_MAX;
 use obj_sprites::OBJ_COUNT;
 use obj_sprites::ObjAttrs;
 use obj_sprites::ObjMode;
@@ -61,8 +63,8 @@ struct Span {
 
 // The first column from start up to end whose entry's priority is above a sprite's, or end.
 fn first_open(entries: &[u8], priority: u8, start: usize, end: usize) -> usize
-    requires { ⌜ (length (now entries) ≡ entriesSize) × (start ≤ end) × (end ≤ 240) ⌝ }
-    ensures { λ r. ⌜ (start ≤ r) × (r ≤ end) × Closed (now (entries .entry)) priority start r ⌝ }
+    requires { ⌜ Columns (now entries) start end ⌝ }
+    ensures { λ r. ⌜ Walked (Closed (now (entries .entry)) priority) start end r ⌝ }
 {
     let mut column = start;
     while column < end {
@@ -76,8 +78,8 @@ fn first_open(entries: &[u8], priority: u8, start: usize, end: usize) -> usize
 
 // The column past the last one from start up to end whose entry's priority is above a sprite's, or start.
 fn last_open(entries: &[u8], priority: u8, start: usize, end: usize) -> usize
-    requires { ⌜ (length (now entries) ≡ entriesSize) × (start ≤ end) × (end ≤ 240) ⌝ }
-    ensures { λ r. ⌜ (start ≤ r) × (r ≤ end) × Closed (now (entries .entry)) priority r end ⌝ }
+    requires { ⌜ Columns (now entries) start end ⌝ }
+    ensures { λ r. ⌜ WalkedBack (Closed (now (entries .entry)) priority) start end r ⌝ }
 {
     let mut past = end;
     while start < past {
@@ -92,13 +94,10 @@ fn last_open(entries: &[u8], priority: u8, start: usize, end: usize) -> usize
 
 // The columns from start up to end without those at both ends where the sprite is passed over: no colour is read for them.
 fn open_columns(entries: &[u8], attrs: ObjAttrs, start: usize, end: usize) -> Span
-    requires { ⌜ (length (now entries) ≡ entriesSize) × (start ≤ end) × (end ≤ 240) ⌝ }
+    requires { ⌜ Columns (now entries) start end ⌝ }
     ensures { λ r.
-        ⌜ (start ≤ r .start)
-        × (r .start ≤ r .end)
-        × (r .end ≤ end)
-        × AllPassedOver (now (entries .entry)) attrs start (r .start)
-        × AllPassedOver (now (entries .entry)) attrs (r .end) end ⌝ }
+        ⌜ Walked (PassedOver (now (entries .entry)) attrs) start (r .end) (r .start)
+        × WalkedBack (PassedOver (now (entries .entry)) attrs) (r .start) end (r .end) ⌝ }
 {
     let objmode = attrs.objmode;
     match objmode {
@@ -124,13 +123,7 @@ fn render_affine_obj(
     mapping: ObjMapping,
     line: usize,
 )
-    requires { ⌜ (length (now entries) ≡ entriesSize)
-        × (length (now vram) ≡ videoRamSize)
-        × (length (now palette) ≡ paletteRamSize)
-        × (length (now oam) ≡ oamSize)
-        × Decoded attrs
-        × (line < 160)
-        × (onLine reading attrs line ≡ true) ⌝ }
+    requires { ⌜ AffineReady (now entries) (now vram) (now palette) (now oam) reading attrs line ⌝ }
     ensures { λ _.
         ⌜ now (entries .exit)
         ≡ putRow attrs
@@ -161,14 +154,7 @@ fn render_normal_obj(
     mapping: ObjMapping,
     line: usize,
 )
-    requires { ⌜ (length (now entries) ≡ entriesSize)
-        × (length (now vram) ≡ videoRamSize)
-        × (length (now palette) ≡ paletteRamSize)
-        × Decoded attrs
-        × (attrs .width % 8 ≡ 0)
-        × (attrs .objtype ≡ ObjType.Normal)
-        × (line < 160)
-        × (onLine reading attrs line ≡ true) ⌝ }
+    requires { ⌜ NormalReady (now entries) (now vram) (now palette) reading attrs line ⌝ }
     ensures { λ _.
         ⌜ now (entries .exit)
         ≡ putRow attrs
@@ -219,18 +205,14 @@ fn show_pixel(entries: &mut [u8], column: usize, pixel_color: Rgb15, priority: u
 // read in the loop, so that it becomes one over vectors.
 fn show_pixels(
     entries: &mut [u8],
-    row: [Rgb15; 128],
+    row: [Rgb15; BOX_MAX],
     left: usize,
     start: usize,
     end: usize,
     priority: u8,
     alpha: bool,
 )
-    requires { ⌜ (length (now entries) ≡ entriesSize)
-        × (start ≤ end)
-        × (end ≤ 240)
-        × (left ≤ start + 272)
-        × (end + 272 ≤ left + 128) ⌝ }
+    requires { ⌜ BoxColumns (now entries) left start end ⌝ }
     ensures { λ _.
         ⌜ now (entries .exit)
         ≡ putBox (cond alpha ObjMode.Sfx ObjMode.Normal) priority row left start end
@@ -273,12 +255,8 @@ fn mark_pixel(entries: &mut [u8], column: usize, pixel_color: Rgb15)
 }
 
 // A window sprite's colours put in the columns from start up to end, as `show_pixels` has it.
-fn mark_pixels(entries: &mut [u8], row: [Rgb15; 128], left: usize, start: usize, end: usize)
-    requires { ⌜ (length (now entries) ≡ entriesSize)
-        × (start ≤ end)
-        × (end ≤ 240)
-        × (left ≤ start + 272)
-        × (end + 272 ≤ left + 128) ⌝ }
+fn mark_pixels(entries: &mut [u8], row: [Rgb15; BOX_MAX], left: usize, start: usize, end: usize)
+    requires { ⌜ BoxColumns (now entries) left start end ⌝ }
     ensures { λ _.
         ⌜ now (entries .exit)
         ≡ putBox ObjMode.Window 0 row left start end (now (entries .entry)) ⌝ }
@@ -294,16 +272,12 @@ fn mark_pixels(entries: &mut [u8], row: [Rgb15; 128], left: usize, start: usize,
 fn write_obj_pixels(
     entries: &mut [u8],
     attrs: ObjAttrs,
-    row: [Rgb15; 128],
+    row: [Rgb15; BOX_MAX],
     left: usize,
     start: usize,
     end: usize,
 )
-    requires { ⌜ (length (now entries) ≡ entriesSize)
-        × (start ≤ end)
-        × (end ≤ 240)
-        × (left ≤ start + 272)
-        × (end + 272 ≤ left + 128) ⌝ }
+    requires { ⌜ BoxColumns (now entries) left start end ⌝ }
     ensures { λ _.
         ⌜ now (entries .exit)
         ≡ putBox (attrs .objmode) (attrs .priority) row left start end (now (entries .entry)) ⌝ }
@@ -328,13 +302,7 @@ fn render_obj(
     line: usize,
     obj: usize,
 )
-    requires { ⌜ (length (now entries) ≡ entriesSize)
-        × (length (now vram) ≡ videoRamSize)
-        × (length (now palette) ≡ paletteRamSize)
-        × (length (now oam) ≡ oamSize)
-        × (line < 160)
-        × (obj < 128)
-        × (onLine reading (sprite (now oam) obj) line ≡ true) ⌝ }
+    requires { ⌜ ObjReady (now entries) (now vram) (now palette) (now oam) reading line obj ⌝ }
     ensures { λ _.
         ⌜ now (entries .exit)
         ≡ putRow (sprite (now (oam .entry)) obj)
@@ -362,7 +330,7 @@ fn render_obj(
 
 // The first sprite from `from` on that is drawn on a line, or 128.
 fn next_obj(oam: &[u8], reading: Reading, tiles_start: usize, line: usize, from: usize) -> usize
-    requires { ⌜ (length (now oam) ≡ oamSize) × (line < 160) × (from ≤ 128) ⌝ }
+    requires { ⌜ NextReady (now oam) line from ⌝ }
     ensures { λ r. ⌜ NextDrawn reading «tiles_start» (now (oam .entry)) line from r ⌝ }
 {
     let mut obj = from;

@@ -20,41 +20,28 @@ use Rattle.obj_entries.specs.Entry.{entryCells, wellShaped, shapedRow}
 use Rattle.obj_entries.specs.Code.{entryOfWord}
 use Rattle.obj_entries.specs.declared.Entry.{Entry}
 
+-- Every number of a list is a byte.
+abbrev pub AllBytes : List ℕ → Type 0
+AllBytes l = (i : ℕ) → Fits w8 (getD l i 0)
+
 -- A row of bytes is exact.
-pub exact-entryCells : (l : List ℕ) → ((i : ℕ) → Fits w8 (getD l i 0)) → (k : ℕ) → Exact entryCells l k
+pub exact-entryCells : (l : List ℕ) → AllBytes l → (k : ℕ) → Exact entryCells l k
 unfolding entryCells cellAt bytesFrom
 exact-entryCells l bytes k = let fits = bytes (4 * k) in simp (low-join, high-join)
 
--- A number in two parts, at 2^16 and at 2^24.
-low-part : (low high : ℕ) → low < 0x10000 → (low + 0x10000 * high) % 0x10000 ≡ low
-low-part low high low< = omega arith
-
-high-part : (low high : ℕ) → low < 0x10000 → (low + 0x10000 * high) / 0x10000 ≡ high
-high-part low high low< = omega arith
-
-top-part : (low high : ℕ) → low < 0x1000000 → (low + 0x1000000 * high) / 0x1000000 ≡ high
-top-part low high low< = omega arith
-
 -- The colour, the priority and the marks in a word.
-module _ (color priority marks : ℕ) {w : ℕ} (color< : color < 0x10000) (fits : Fits w8 priority)
-    (word-is : w ≡ color + 0x10000 * priority + 0x1000000 * marks) where
-  halves : w ≡ color + 0x10000 * (priority + 256 * marks)
-  halves = omega arith
-
-  word-color : w % 0x10000 ≡ color
-  word-color = rw halves (low-part color (priority + 256 * marks) color<)
-
-  word-priority : w / 0x10000 % 0x100 ≡ priority
-  word-priority = rw (halves, high-part color (priority + 256 * marks) color<) (low-join priority marks fits)
-
-  word-marks : w / 0x1000000 ≡ marks
-  word-marks = rw word-is (top-part (color + 0x10000 * priority) marks (omega arith))
-
-  pub entryOfWord-parts : entryOfWord w ≡ record { color = rgb color; priority = priority; marks = marks }
-  entryOfWord-parts = λ i. record { color = rgb (word-color i); priority = word-priority i; marks = word-marks i }
+pub entryOfWord-parts : (color priority marks : ℕ) {w : ℕ} → color < 0x10000 → Fits w8 priority
+    → w ≡ color + 0x10000 * priority + 0x1000000 * marks
+    → entryOfWord w ≡ record { color = rgb color; priority = priority; marks = marks }
+entryOfWord-parts color priority marks {w} color< fits word-is =
+    let color-is : w % 0x10000 ≡ color = omega arith in
+    let high-is : w / 0x10000 ≡ priority + 0x100 * marks = omega arith in
+    let priority-is : w / 0x10000 % 0x100 ≡ priority = rw high-is (low-join priority marks fits) in
+    let marks-is : w / 0x1000000 ≡ marks = omega arith in
+    rw (color-is, priority-is, marks-is)
 
 -- The entry of a word that was read.
-pub entry-of-word : (l : List ℕ) → ((i : ℕ) → Fits w8 (getD l i 0)) → (k : ℕ) {w : ℕ} → w ≡ cellAt wordCells l k
+pub entry-of-word : (l : List ℕ) → AllBytes l → (k : ℕ) {w : ℕ} → w ≡ cellAt wordCells l k
     → entryOfWord w ≡ cellAt entryCells l k
 unfolding entryCells wordCells cellAt bytesAt
 entry-of-word l bytes k {w} read =
@@ -82,7 +69,7 @@ putCell-word l k w =
     ap₂ (λ a b. putFrom l (4 * k) (a ∷ b ∷ w / 0x10000 % 0x100 ∷ w / 0x1000000 ∷ [])) (low-byte w) (high-byte w)
 
 -- One of two words is put, the one that was read or that of an entry.
-pub putCell-chosen : (l : List ℕ) → ((i : ℕ) → Fits w8 (getD l i 0)) → (k : ℕ) (kept : Bool)
+pub putCell-chosen : (l : List ℕ) → AllBytes l → (k : ℕ) (kept : Bool)
     (w : ℕ) {v u : ℕ} {m : List ℕ} {e : Entry}
     → v ≡ cellAt wordCells l k → entryOfWord w ≡ e → u ≡ cond kept v w → m ≡ putCell wordCells l k u
     → m ≡ putCell entryCells l k (cond kept (cellAt entryCells l k) e)

@@ -11,16 +11,14 @@ use Rattle.regs.specs.declared.reading.Reading.{Reading}
 use Rattle.obj_sprites.specs.Tiles.{tileBase, tileRow, tileAt, texel}
 use Rattle.obj_sprites.specs.declared.attrs.ObjAttrs.{ObjAttrs}
 
-module _ (row y : ℕ) (row≤ : row ≤ 32) (y< : y < 64) where
-  -- At most 7 rows of at most 32 tiles lie above.
-  pub rows-bound : row * (y / 8) ≤ 224
-  rows-bound = let above : y / 8 ≤ 7 = omega arith in omega (arith, mul-le-mul row≤ above)
-
-  -- The bytes before a tile.
-  pub tiles-bound : (size x : ℕ) → size ≤ 64 → x < 64 → size * (x / 8 + row * (y / 8)) ≤ 14784
-  tiles-bound size x size≤ x< =
-      let tiles : x / 8 + row * (y / 8) ≤ 231 = omega (arith, rows-bound) in
-      omega (arith, mul-le-mul size≤ tiles)
+-- The tiles of the rows above one, of which there are at most 7, and the bytes of all tiles before it.
+pub tiles-bound : (size row x y : ℕ) → size ≤ 64 → row ≤ 32 → x < 64 → y < 64
+    → (row * (y / 8) ≤ 224) × (size * (x / 8 + row * (y / 8)) ≤ 14784)
+tiles-bound size row x y size≤ row≤ x< y< =
+    let above : y / 8 ≤ 7 = omega arith in
+    let rows : row * (y / 8) ≤ 224 = mul-le-mul row≤ above in
+    let tiles : x / 8 + row * (y / 8) ≤ 231 = omega arith in
+    (rows, mul-le-mul size≤ tiles)
 
 -- A tile whose base, size and row were found.
 pub tileAt-is : (reading : Reading) (mapping : ObjMapping) (s : ObjAttrs) (x y : ℕ) {base size row : ℕ}

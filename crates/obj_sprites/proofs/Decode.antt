@@ -17,6 +17,7 @@ use Rattle.regs.specs.Background.{tileFormat}
 use Rattle.obj_sprites.specs.Oam.{Attributes, attributes}
 use Rattle.obj_sprites.specs.Size.{widths, heights, objWidth, objHeight}
 use Rattle.obj_sprites.specs.Attrs.{objType, objMode, objAttrs, sprite}
+use Rattle.obj_sprites.specs.Code.{SizeOf}
 use Rattle.obj_sprites.specs.declared.attrs.ObjAttrs.{ObjAttrs}
 
 -- A sprite whose every field is what the halfwords say is their sprite.
@@ -86,15 +87,17 @@ unfolding objWidth objHeight widths heights allBelow
 sizes-bound = refl
 
 -- What a table of all 16 sizes has at n.
-pub size-is : (n size shape : ℕ) → size < 4 → shape < 4 → 4 * shape + size ≡ n
-    → (objWidth (n % 4) (n / 4) ≡ objWidth size shape)
-    × (objHeight (n % 4) (n / 4) ≡ objHeight size shape)
-    × (objWidth (n % 4) (n / 4) ≤ 64)
-    × (objHeight (n % 4) (n / 4) ≤ 64)
-size-is n size shape size< shape< n-is =
-    let sized = size-at n size shape size< n-is in
+pub size-is : (n : ℕ) {size shape : ℕ} → (size < 4) × (shape < 4) → 4 * shape + size ≡ n
+    → SizeOf size shape (record { 0 = objWidth (n % 4) (n / 4); 1 = objHeight (n % 4) (n / 4) })
+size-is n {size} {shape} small n-is =
+    let sized = size-at n size shape (small .0) n-is in
     let bounds = and-both _ _ (allBelow-at _ 16 sizes-bound n (omega arith)) in
-    (sized .0, sized .1, leb-true _ _ (bounds .0), leb-true _ _ (bounds .1))
+    record {
+      width-is = sized .0;
+      height-is = sized .1;
+      width≤ = leb-true _ _ (bounds .0);
+      height≤ = leb-true _ _ (bounds .1);
+    }
 
 -- Every width is one of whole tiles.
 widths-whole : allBelow (λ n. eqb (objWidth (n % 4) (n / 4) % 8) 0) 16 ≡ true

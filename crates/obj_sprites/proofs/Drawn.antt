@@ -13,12 +13,8 @@ use Rattle.obj_sprites.specs.Place.{boxHeight, top, onLine}
 use Rattle.obj_sprites.specs.Tiles.{tileBase}
 use Rattle.obj_sprites.specs.Sprite.{isShown, isPermitted, drawn}
 use Rattle.obj_sprites.specs.declared.attrs.ObjAttrs.{ObjAttrs}
+use Rattle.obj_sprites.proofs.Booleans.{or-neither}
 use Rattle.obj_sprites.proofs.Places.{boxed-bound, below-is, onLine-bounds}
-
--- Neither test holds where their disjunction doesn't.
-or-neither : (s t : Bool) → (s || t) ≡ false → (s ≡ false) × (t ≡ false)
-or-neither true t e = (e, cc)
-or-neither false t e = (refl, e)
 
 module _ (reading : Reading) (start : ℕ) (s : ObjAttrs) (line : ℕ) where
   -- A sprite that is drawn has the line in its box.

@@ -3,38 +3,36 @@
 use Prim.Native.Nat.{ℕ, suc, _+_, _-_, _%_, _≤_, _<_, min}
 use native.Mathlib.Omega.{arith}
 use mathlib.Core.Path.{_≡_, refl, sym, ap, ap₂, _∙_}
-use mathlib.Core.Bool.{Bool, true, false, _&&_}
+use mathlib.Core.Bool.{Bool, true, false, cond, _&&_}
 use lib.Dec.{ltb}
-use lib.IntN.{ℤ, pos, subℕ, _-ℤ_}
-use borrow.Author.Tests.{lt-ltb, le-ltb, leb-true, ltb-true, ltb-false}
+use lib.IntN.{pos, subℕ, _-ℤ_}
+use borrow.Author.Tests.{leb-true, ltb-true, ltb-false}
 use Rattle.signed.specs.Signed.{within}
-use Rattle.signed.proofs.Difference.{View, up, down, view, subℕ-view, subℕ-cross, sub-pos-subℕ}
+use Rattle.signed.proofs.Difference.{up, subℕ-view, subℕ-cross, sub-pos-subℕ}
 use Rattle.bits.proofs.Booleans.{and-both, leb-same}
 use Rattle.signed.proofs.Remainder.{within-subℕ}
 use Rattle.rows.specs.Below.{between}
-use Rattle.rows.proofs.Below.{between-before, between-past}
 use Rattle.regs.specs.declared.reading.Reading.{Reading}
 use Rattle.obj_sprites.specs.Place.{xOf, yOf, boxed, boxHeight, left, top, across, below, onLine}
 use Rattle.obj_sprites.specs.declared.attrs.ObjAttrs.{ObjAttrs}
 use Rattle.obj_sprites.specs.declared.attrs.ObjType.{ObjType}
 
--- An X plus 272, without the carry, is its place plus 272.
+-- A place that wraps: r is what it is plus a bias, without the carry.
+lifted : (v limit size bias r : ℕ) → (v < limit → r ≡ bias + v) → (limit ≤ v → r + size ≡ bias + v)
+    → cond (ltb v limit) (pos v) (subℕ v size) ≡ subℕ r bias
+lifted v limit size bias r low high = go (ltb v limit) refl
+  where
+    go : (t : Bool) → ltb v limit ≡ t → cond t (pos v) (subℕ v size) ≡ subℕ r bias
+    go true t = sym (subℕ-view r bias (up v (omega (arith, low (ltb-true v limit t)))))
+    go false t = subℕ-cross v size r bias (omega (arith, high (ltb-false v limit t)))
+
 pub xOf-lifted : (x : ℕ) → x ≤ 511 → xOf x ≡ subℕ ((x + 272) % 512) 272
 unfolding xOf
-xOf-lifted x x≤ = go (view x 240)
-  where
-    go : {z : ℤ} → View x 240 z → xOf x ≡ subℕ ((x + 272) % 512) 272
-    go (up k p) = rw (le-ltb x 240 (omega arith)) (subℕ-cross x 512 ((x + 272) % 512) 272 (omega arith))
-    go (down k p) = rw (lt-ltb x 240 (omega arith)) (sym (subℕ-view ((x + 272) % 512) 272 (up x (omega arith))))
+xOf-lifted x x≤ = lifted x 240 512 272 ((x + 272) % 512) (λ h. omega arith) (λ h. omega arith)
 
--- A Y plus 96, without the carry, is its place plus 96.
 pub yOf-lifted : (y : ℕ) → y ≤ 255 → yOf y ≡ subℕ ((y + 96) % 256) 96
 unfolding yOf
-yOf-lifted y y≤ = go (view y 160)
-  where
-    go : {z : ℤ} → View y 160 z → yOf y ≡ subℕ ((y + 96) % 256) 96
-    go (up k p) = rw (le-ltb y 160 (omega arith)) (subℕ-cross y 256 ((y + 96) % 256) 96 (omega arith))
-    go (down k p) = rw (lt-ltb y 160 (omega arith)) (sym (subℕ-view ((y + 96) % 256) 96 (up y (omega arith))))
+yOf-lifted y y≤ = lifted y 160 256 96 ((y + 96) % 256) (λ h. omega arith) (λ h. omega arith)
 
 -- A number from bias on is what it is above it.
 pub subℕ-above : (r bias : ℕ) → bias ≤ r → subℕ r bias ≡ pos (r - bias)
@@ -45,20 +43,6 @@ pub within-bounds : (r bias m : ℕ) → within (subℕ r bias) m ≡ true → (
 within-bounds r bias m e =
     let both = and-both _ _ (sym (within-subℕ r bias m) ∙ e) in
     (leb-true bias r (both .0), ltb-true r (bias + m) (both .1))
-
--- A column between two others lies from the first on and before the second.
-pub between-bounds : (start end column : ℕ) → between start end column ≡ true → (start ≤ column) × (column < end)
-unfolding between
-between-bounds start end column e =
-    let both = and-both _ _ e in (leb-true start column (both .0), ltb-true column end (both .1))
-
--- No column lies between two others in the wrong order.
-pub between-none : (start end column : ℕ) → end ≤ start → between start end column ≡ false
-between-none start end column h = go (ltb column start) refl
-  where
-    go : (t : Bool) → ltb column start ≡ t → between start end column ≡ false
-    go true t = between-before start end column (ltb-true column start t)
-    go false t = between-past start end column (omega (arith, ltb-false column start t))
 
 -- The box of a normal sprite has its own size.
 pub boxed-normal : {type : ObjType} (side : ℕ) → type ≡ ObjType.Normal → boxed type side ≡ side

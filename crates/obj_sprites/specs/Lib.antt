@@ -6,3 +6,4 @@ pub mod Place
 pub mod Tiles
 pub mod Color
 pub mod Sprite
+pub mod Code

@@ -2,22 +2,23 @@
 // reading is passed on.
 ghost use mathlib.Core.Path.{_≡_};
 ghost use mathlib.Core.Bool.{true};
-ghost use Prim.Native.Nat.{ℕ, _+_, _^_, _≤_, _<_};
+ghost use Prim.Native.Nat.{_+_, _^_, _≤_, _<_};
 ghost use lib.IntN.{pos, subℕ};
 ghost use Rattle.signed.specs.Signed.{within};
 ghost use Rattle.memory.specs.Sizes.{videoRamSize};
 ghost use Rattle.regs.specs.Background.{tileFormat};
 ghost use Rattle.regs.specs.declared.reading.Reading.{Reading};
-ghost use Rattle.obj_sprites.specs.Size.{objWidth, objHeight};
 ghost use Rattle.obj_sprites.specs.Attrs.{objMode, objType, objAttrs, Decoded};
 ghost use Rattle.obj_sprites.specs.Place.{boxed, boxWidth, boxHeight, left, top, below, onLine};
 ghost use Rattle.obj_sprites.specs.Tiles.{tileBase, tileRow, tileAt};
 ghost use Rattle.obj_sprites.specs.Sprite.{isShown, isPermitted, drawn};
+ghost use Rattle.obj_sprites.specs.Code.{SizeOf};
 use memory::PixelFormat;
 use regs::ObjMapping;
 use regs::Reading;
 
-const OVRAM: usize = 0x1_0000;
+// Where sprite tiles are counted from.
+pub const OVRAM: usize = 0x1_0000;
 
 // Bytes that a tile number counts.
 const TILE_STEP: usize = 0x20;
@@ -27,8 +28,8 @@ pub const X_BIAS: usize = 272;
 
 const Y_BIAS: usize = 96;
 
-// The lines of the highest box.
-const BOX_MAX: usize = 128;
+// The columns of the widest box, and the lines of the highest.
+pub const BOX_MAX: usize = 128;
 
 pub enum ObjMode {
     Normal,
@@ -115,11 +116,7 @@ struct ObjSize(usize, usize);
 impl ObjSize {
     fn from(size: u16, shape: u16) -> ObjSize
         requires { ⌜ (size < 4) × (shape < 4) ⌝ }
-        ensures { λ r.
-            ⌜ (r .0 ≡ objWidth size shape)
-            × (r .1 ≡ objHeight size shape)
-            × (r .0 ≤ 64)
-            × (r .1 ≤ 64) ⌝ }
+        ensures { λ r. ⌜ SizeOf size shape r ⌝ }
     {
         // All 16 are written out, so that this is a table and has no jump.
         match 4 * shape + size {

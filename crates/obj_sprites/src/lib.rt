@@ -8,6 +8,8 @@ ghost use Rattle.obj_sprites.specs.Tiles.{tilesStart, texel};
 
 mod attrs;
 
+pub use attrs::BOX_MAX;
+use attrs::OVRAM;
 pub use attrs::ObjAttrs;
 pub use attrs::ObjMode;
 pub use attrs::ObjType;
@@ -26,8 +28,6 @@ pub const PALRAM_OFS_FG: usize = 0x200;
 pub const ATTRS_SIZE: usize = 2 * 3 + 2;
 
 pub const OBJ_COUNT: usize = 128;
-
-const VRAM_OBJ_TILES_START_TEXT: usize = 0x1_0000;
 
 const VRAM_OBJ_TILES_START_BITMAP: usize = 0x1_4000;
 
@@ -82,7 +82,7 @@ pub fn obj_tiles_start(mode: u16) -> usize
     ensures { λ r. ⌜ r ≡ tilesStart mode ⌝ }
 {
     if mode < 3 {
-        VRAM_OBJ_TILES_START_TEXT
+        OVRAM
     } else {
         VRAM_OBJ_TILES_START_BITMAP
     }

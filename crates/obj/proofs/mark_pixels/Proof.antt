@@ -1,34 +1,18 @@
 -- obj::mark_pixels meets its contract: a turn puts its column's colour.
 -- Assumes nothing.
-use Prim.Native.Nat.{_+_, _-_}
-use native.Mathlib.Omega.{arith}
-use lib.ListN.{getD}
-use Rattle.rgb15.specs.Colour.{rgb}
-use Rattle.rows.proofs.Passed.{passed-to}
-use Rattle.obj_entries.specs.Entry.{entryCells}
+use Prim.Native.Nat.{_-_}
+use borrow.Author.Needs.{needs}
 use Rattle.obj_sprites.specs.declared.attrs.ObjMode.{ObjMode}
-use Rattle.obj.proofs.Pixels.{PutPart, putPart-from, putPart-inside}
+use Rattle.obj.proofs.Pixels.{PutUpTo, putUpTo-none, putUpTo-more, putUpTo-all}
 use Rattle.obj.proofs.mark_pixels.Statement.{statement}
 use Rattle.obj.proofs.mark_pixels.Tie as tie
 
 abbrev Inv-loop : tie.InvT-loop
 Inv-loop entries₀ left start end row column₀ entries column =
-    PutPart ObjMode.Window 0 (λ k. getD row (k + 272 - left) (rgb 0) .0) start end entries₀ column entries
+    PutUpTo ObjMode.Window 0 row left start end entries₀ column entries
 
 abbrev μ-loop : tie.MeasureT-loop
 μ-loop entries₀ left start end row column₀ entries column = end - column
-
-loop-holds : tie.Need-loop-holds Inv-loop μ-loop
-loop-holds c = putPart-from _ _ _ _ _ _ (omega arith) (omega arith) (c .slice-known .given)
-
-loop-again : tie.Need-loop-again Inv-loop μ-loop
-loop-again c =
-    let put = c .before .before in
-    let turn = put .before .before .before in
-    putPart-inside _ _ _ (turn .before .loop .inv) (omega arith) (omega arith) (put .mark-pixel .ensures)
-
-returns : tie.Need-returns Inv-loop μ-loop
-returns c = passed-to entryCells (c .before .loop .inv) (omega arith)
 
 pub mark-pixels-spec : {M : Type 1} → statement M
 mark-pixels-spec =
@@ -36,14 +20,14 @@ mark-pixels-spec =
     (tie.spec
     Inv-loop
     μ-loop
-    loop-holds
-    (λ c. omega arith)
-    (λ c. omega arith)
-    (λ c. omega arith)
-    (λ c. omega arith)
-    (λ c κs. omega arith)
-    (λ c. omega arith)
-    (λ c. omega arith)
-    loop-again
-    (λ c. omega arith)
-    returns)
+    (λ c. putUpTo-none (search needs) (c .slice-known .given))
+    (search needs)
+    (search needs)
+    (search needs)
+    (search needs)
+    (search needs)
+    (search needs)
+    (search needs)
+    (λ c. search (needs, putUpTo-more))
+    (search needs)
+    (λ c. search (needs, putUpTo-all)))

@@ -6,13 +6,12 @@ use Rattle.obj.proofs.Marks.{number-is, number-bound, shownBy-made}
 use Rattle.obj.proofs.shown_by.Statement.{statement}
 use Rattle.obj.proofs.shown_by.Tie as tie
 
-add-t8 : tie.Need-add-t8
-add-t8 c = omega (arith, number-bound (c .before .args .alpha))
-
-returns : tie.Need-returns
-returns c =
+mark-put : tie.Need-returns
+mark-put c =
     let at = c .before .args in
     shownBy-made (at .alpha) (at .priority) (at .pixel-color .0) (at .e) (omega (arith, number-is (at .alpha)))
 
 pub shown-by-spec : {M : Type 1} → statement M
-shown-by-spec = tie.close (tie.spec (search needs) (search needs) add-t8 returns)
+shown-by-spec =
+    tie.close
+    (tie.spec (search needs) (search needs) (λ c. omega (arith, number-bound (c .before .args .alpha))) mark-put)

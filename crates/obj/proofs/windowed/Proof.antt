@@ -5,9 +5,6 @@ use Rattle.obj.specs.Put.{windowed}
 use Rattle.obj.proofs.windowed.Statement.{statement}
 use Rattle.obj.proofs.windowed.Tie as tie
 
-returns : tie.Need-returns
-unfolding windowed
-returns c = search needs
-
 pub windowed-spec : {M : Type 1} → statement M
-windowed-spec = tie.close (tie.spec (search needs) (search needs) (search needs) returns)
+unfolding windowed
+windowed-spec = tie.close (tie.spec (search needs) (search needs) (search needs) (λ c. search needs))

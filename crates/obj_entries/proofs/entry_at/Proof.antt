@@ -5,11 +5,6 @@ use Rattle.obj_entries.proofs.Entries.{entry-of-word}
 use Rattle.obj_entries.proofs.entry_at.Statement.{statement}
 use Rattle.obj_entries.proofs.entry_at.Tie as tie
 
-returns : tie.Need-returns
-returns c =
-    let known = c .before in
-    entry-of-word _ (known .shared-slice-known .given) (known .before .args .k) (c .word-at .ensures)
-
 pub entry-at-spec : {M : Type 1} → statement M
 entry-at-spec =
     tie.close
@@ -18,4 +13,4 @@ entry-at-spec =
     (search needs)
     (search needs)
     (search needs)
-    returns)
+    (λ c. search (needs, entry-of-word)))

@@ -1,7 +1,6 @@
 -- obj_entries::reset_row meets its contract: a turn puts the reset entry in its cell.
 -- Assumes nothing.
 use Prim.Native.Nat.{_-_}
-use native.Mathlib.Omega.{arith}
 use borrow.Author.Needs.{needs}
 use Rattle.rows.proofs.Passed.{Passed, started, turned, filled}
 use Rattle.obj_entries.specs.Entry.{entryCells, resetEntry}
@@ -14,26 +13,17 @@ Inv-loop entries₀ k₀ entries k = Passed entryCells (λ _ _. resetEntry) 240 
 abbrev μ-loop : tie.MeasureT-loop
 μ-loop entries₀ k₀ entries k = 240 - k
 
-loop-holds : tie.Need-loop-holds Inv-loop μ-loop
-loop-holds c = search (needs, started entryCells)
-
-loop-again : tie.Need-loop-again Inv-loop μ-loop
-loop-again c = search (needs, turned entryCells)
-
-returns : tie.Need-returns Inv-loop μ-loop
-returns c = search (needs, filled entryCells)
-
 pub reset-row-spec : {M : Type 1} → statement M
 reset-row-spec =
     tie.close
     (tie.spec
     Inv-loop
     μ-loop
-    loop-holds
-    (λ c κs. omega arith)
-    (λ c κs. omega arith)
-    (λ c. omega arith)
-    (λ c. omega arith)
-    loop-again
-    (λ c. omega arith)
-    returns)
+    (λ c. search (needs, started entryCells))
+    (search needs)
+    (search needs)
+    (search needs)
+    (search needs)
+    (λ c. search (needs, turned entryCells))
+    (search needs)
+    (λ c. search (needs, filled entryCells)))

@@ -1,23 +1,19 @@
 -- obj_sprites::read_obj_attrs meets its contract: the three reads are the halfwords of attributes.
 -- Assumes nothing.
-use native.Mathlib.Omega.{arith}
 use borrow.Author.Needs.{needs}
 use Rattle.obj_sprites.proofs.Decode.{sprite-is}
 use Rattle.obj_sprites.proofs.read_obj_attrs.Statement.{statement}
 use Rattle.obj_sprites.proofs.read_obj_attrs.Tie as tie
 
-returns : tie.Need-returns
-returns c = search (needs, sprite-is)
-
 pub read-obj-attrs-spec : {M : Type 1} → statement M
 read-obj-attrs-spec =
     tie.close
     (tie.spec
-    (λ c. omega arith)
-    (λ c κs. omega arith)
-    (λ c. omega arith)
-    (λ c κs. omega arith)
-    (λ c. omega arith)
-    (λ c κs. omega arith)
-    (λ c κs. omega arith)
-    returns)
+    (search needs)
+    (search needs)
+    (search needs)
+    (search needs)
+    (search needs)
+    (search needs)
+    (search needs)
+    (λ c. search (needs, sprite-is)))

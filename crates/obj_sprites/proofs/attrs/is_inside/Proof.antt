@@ -6,8 +6,7 @@ use Rattle.signed.proofs.Remainder.{within-subℕ}
 use Rattle.obj_sprites.proofs.attrs.is_inside.Statement.{statement}
 use Rattle.obj_sprites.proofs.attrs.is_inside.Tie as tie
 
-returns : tie.Need-returns
-returns c = let at = c .args in sym (within-subℕ (at .at) (at .from) (at .size))
-
 pub is-inside-spec : {M : Type 1} → statement M
-is-inside-spec = tie.close (tie.spec (search needs) returns)
+is-inside-spec =
+    tie.close
+    (tie.spec (search needs) (λ c. sym (within-subℕ (c .args .at) (c .args .from) (c .args .size))))

@@ -2,17 +2,18 @@
 -- Assumes nothing.
 use mathlib.Core.Path.{refl}
 use native.Mathlib.Omega.{arith}
+use borrow.Author.Needs.{needs}
 use Rattle.obj_sprites.proofs.Decode.{objAttrs-ext}
 use Rattle.obj_sprites.proofs.attrs.ObjAttrs.from.Statement.{statement}
 use Rattle.obj_sprites.proofs.attrs.ObjAttrs.from.Tie as tie
 
-returns : tie.Need-returns
-returns c =
+fields : tie.Need-returns
+fields c =
     let typed = c .before .before in
     let size = typed .before .from .ensures in (
       objAttrs-ext _ _
           (omega arith) (typed .from2 .ensures) (c .before .from3 .ensures) (c .tile-format .ensures)
-          (omega arith) (omega arith) refl refl (size .0) (size .1)
+          (omega arith) (omega arith) refl refl (size .width-is) (size .height-is)
           (omega arith) (omega arith) (omega arith),
       omega arith,
     )
@@ -21,14 +22,14 @@ pub from-spec : {M : Type 1} → statement M
 from-spec =
     tie.close
     (tie.spec
-    (λ c κs. omega arith)
-    (λ c. omega arith)
-    (λ c κs. omega arith)
-    (λ c κs. omega arith)
-    (λ c κs. omega arith)
-    (λ c. omega arith)
-    (λ c. omega arith)
-    (λ c. omega arith)
-    (λ c. omega arith)
-    (λ c. omega arith)
-    returns)
+    (search needs)
+    (search needs)
+    (search needs)
+    (search needs)
+    (search needs)
+    (search needs)
+    (search needs)
+    (search needs)
+    (search needs)
+    (search needs)
+    fields)

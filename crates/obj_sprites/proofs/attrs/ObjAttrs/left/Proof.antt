@@ -6,9 +6,6 @@ use Rattle.obj_sprites.proofs.Places.{xOf-lifted}
 use Rattle.obj_sprites.proofs.attrs.ObjAttrs.left.Statement.{statement}
 use Rattle.obj_sprites.proofs.attrs.ObjAttrs.left.Tie as tie
 
-returns : tie.Need-returns
-unfolding left
-returns c = (xOf-lifted _ (search needs), search needs)
-
 pub left-spec : {M : Type 1} → statement M
-left-spec = tie.close (tie.spec (search needs) returns)
+unfolding left
+left-spec = tie.close (tie.spec (search needs) (λ c. (xOf-lifted _ (search needs), search needs)))

@@ -4,7 +4,7 @@ use Prim.Native.Nat.{_+_, _*_, _/_, _≤_}
 use native.Mathlib.Omega.{arith}
 use borrow.Author.Needs.{needs}
 use Rattle.memory.proofs.Laws.{tileSize-bound}
-use Rattle.obj_sprites.proofs.Addresses.{rows-bound, tiles-bound, tileAt-is}
+use Rattle.obj_sprites.proofs.Addresses.{tiles-bound, tileAt-is}
 use Rattle.obj_sprites.proofs.attrs.ObjAttrs.tile_at.Statement.{statement}
 use Rattle.obj_sprites.proofs.attrs.ObjAttrs.tile_at.Tie as tie
 
@@ -14,31 +14,9 @@ bounds : (c : tie.After-tile-base)
     let at = c .before .before .before .args in
     (row * (at .y / 8) ≤ 224) × (size * (at .x / 8 + row * (at .y / 8)) ≤ 14784)
 bounds c =
-    let at = c .before .before .before .args in
-    let small = c .before .tile-array-width .ensures .1 in
     let size = c .before .before .tile-size in
-    let size≤ : size .result ≤ 64 = rw (size .ensures) (tileSize-bound (at .self .format)) in
-    (rows-bound _ (at .y) small (omega arith), tiles-bound _ (at .y) small (omega arith) _ (at .x) size≤ (omega arith))
-
-mul-result : tie.Need-mul-result
-mul-result c = omega (arith, bounds c)
-
-add-result : tie.Need-add-result
-add-result c = omega (arith, bounds c)
-
-mul-result-2 : tie.Need-mul-result-2
-mul-result-2 c = omega (arith, bounds c)
-
-add-result-2 : tie.Need-add-result-2
-add-result-2 c = omega (arith, bounds c)
-
-returns : tie.Need-returns
-returns c =
-    let at = c .before .before .before .args in (
-      tileAt-is (at .reading) (at .mapping) (at .self) (at .x) (at .y)
-          (c .tile-base .ensures .0) (c .before .before .tile-size .ensures) (c .before .tile-array-width .ensures .0),
-      omega (arith, bounds c),
-    )
+    let size≤ : size .result ≤ 64 = rw (size .ensures) (tileSize-bound (c .before .before .before .args .self .format)) in
+    tiles-bound _ _ _ _ size≤ (search needs) (search needs) (search needs)
 
 pub tile-at-spec : {M : Type 1} → statement M
 tile-at-spec =
@@ -47,8 +25,8 @@ tile-at-spec =
     (search needs)
     (search needs)
     (search needs)
-    mul-result
-    add-result
-    mul-result-2
-    add-result-2
-    returns)
+    (λ c. omega (arith, bounds c))
+    (λ c. omega (arith, bounds c))
+    (λ c. omega (arith, bounds c))
+    (λ c. omega (arith, bounds c))
+    (λ c. search (needs, tileAt-is, bounds c)))

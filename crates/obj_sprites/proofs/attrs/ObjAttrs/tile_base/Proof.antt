@@ -5,9 +5,6 @@ use Rattle.obj_sprites.specs.Tiles.{tileBase}
 use Rattle.obj_sprites.proofs.attrs.ObjAttrs.tile_base.Statement.{statement}
 use Rattle.obj_sprites.proofs.attrs.ObjAttrs.tile_base.Tie as tie
 
-returns : tie.Need-returns
-unfolding tileBase
-returns c = search needs
-
 pub tile-base-spec : {M : Type 1} → statement M
-tile-base-spec = tie.close (tie.spec (search needs) (search needs) returns)
+unfolding tileBase
+tile-base-spec = tie.close (tie.spec (search needs) (search needs) (λ c. search needs))

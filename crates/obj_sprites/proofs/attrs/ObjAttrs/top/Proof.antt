@@ -6,9 +6,6 @@ use Rattle.obj_sprites.proofs.Places.{yOf-lifted}
 use Rattle.obj_sprites.proofs.attrs.ObjAttrs.top.Statement.{statement}
 use Rattle.obj_sprites.proofs.attrs.ObjAttrs.top.Tie as tie
 
-returns : tie.Need-returns
-unfolding top
-returns c = (yOf-lifted _ (search needs), search needs)
-
 pub top-spec : {M : Type 1} → statement M
-top-spec = tie.close (tie.spec (search needs) returns)
+unfolding top
+top-spec = tie.close (tie.spec (search needs) (λ c. (yOf-lifted _ (search needs), search needs)))

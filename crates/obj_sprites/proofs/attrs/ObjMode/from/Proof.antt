@@ -7,10 +7,10 @@ use Rattle.obj_sprites.specs.Attrs.{objMode}
 use Rattle.obj_sprites.proofs.attrs.ObjMode.from.Statement.{statement}
 use Rattle.obj_sprites.proofs.attrs.ObjMode.from.Tie as tie
 
-returns-4 : tie.Need-returns-4
+forbidden : tie.Need-returns-4
 unfolding objMode
-returns-4 c = let e : c .before .args .value ≡ 3 = omega (arith, c .match .rest) in rw e
+forbidden c = let e : c .before .args .value ≡ 3 = omega (arith, c .match .rest) in rw e
 
 pub from-spec : {M : Type 1} → statement M
 unfolding objMode
-from-spec = tie.close (tie.spec (λ c. search needs) (λ c. search needs) (λ c. search needs) returns-4)
+from-spec = tie.close (tie.spec (λ c. search needs) (λ c. search needs) (λ c. search needs) forbidden)

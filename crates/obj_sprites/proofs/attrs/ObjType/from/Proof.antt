@@ -7,10 +7,10 @@ use Rattle.obj_sprites.specs.Attrs.{objType}
 use Rattle.obj_sprites.proofs.attrs.ObjType.from.Statement.{statement}
 use Rattle.obj_sprites.proofs.attrs.ObjType.from.Tie as tie
 
-returns-4 : tie.Need-returns-4
+double-size : tie.Need-returns-4
 unfolding objType
-returns-4 c = let e : c .before .args .value ≡ 3 = omega (arith, c .match .rest) in rw e
+double-size c = let e : c .before .args .value ≡ 3 = omega (arith, c .match .rest) in rw e
 
 pub from-spec : {M : Type 1} → statement M
 unfolding objType
-from-spec = tie.close (tie.spec (λ c. search needs) (λ c. search needs) (λ c. search needs) returns-4)
+from-spec = tie.close (tie.spec (λ c. search needs) (λ c. search needs) (λ c. search needs) double-size)

@@ -1,0 +1,13 @@
+-- As code has it: a sprite's two sides, looked up at once (01, "Sprites").
+-- No exported contract reaches this file. Assumes nothing.
+use Prim.Native.Nat.{ℕ, _≤_}
+use mathlib.Core.Path.{_≡_}
+use Rattle.obj_sprites.specs.Size.{objWidth, objHeight}
+use Rattle.obj_sprites.specs.declared.attrs.ObjSize.{ObjSize}
+
+-- A width and a height are those of a size and a shape.
+pub record SizeOf (size shape : ℕ) (r : ObjSize) : Type 0 where
+  pub width-is : r .0 ≡ objWidth size shape
+  pub height-is : r .1 ≡ objHeight size shape
+  pub width≤ : r .0 ≤ 64
+  pub height≤ : r .1 ≤ 64
