@@ -8,7 +8,6 @@ use mathlib.Core.List.{List, [], _∷_}
 use lib.Dec.{leb, ltb}
 use lib.ListN.{getD}
 use borrow.Author.Tests.{ltb-true}
-use Rattle.bits.specs.Bits.{bit}
 use Rattle.rgb15.specs.Colour.{isTransparent}
 use Rattle.rows.specs.Tab.{tab}
 use Rattle.rows.proofs.Tab.{tab-cong}
@@ -30,8 +29,8 @@ use Rattle.sfx_regions.proofs.Regions.{wordIn-each}
 use Rattle.sfx_sorting.specs.Ordered.{keep}
 use Rattle.sfx_layers.specs.Layers.{Layer, Pair, isObject, background, backdropLayer, objectLayer}
 use Rattle.sfx_layers.specs.Layers.{counts, objectCounts, firstTwo, placed, layers}
-use Rattle.sfx_layers.specs.Code.{objectTag, tagPriority, lineTag, linePlaceTag, placeTag, isShown, permitsPlace, objectsBit, regionWord, columnRegion}
-use Rattle.sfx_layers.specs.Code.{putBackground, backdropPair, backgroundPair, putObject, LineLayersOf}
+use Rattle.sfx_layers.specs.Code.{objectTag, tagPriority, lineTag, linePlaceTag, placeTag, isShown, permitsPlace, regionWord, columnRegion}
+use Rattle.sfx_layers.specs.Code.{putBackground, backdropPair, backgroundPair, putObject, columnPair, LineLayersOf}
 use Rattle.sfx_layers.specs.declared.layer.LayerPair.{LayerPair}
 use Rattle.sfx_layers.specs.declared.layer.LineLayers.{LineLayers}
 use Rattle.sfx_layers.proofs.Places.{placedLayer, placedLayers}
@@ -139,9 +138,9 @@ module _ (palette registers at : List ℕ) {line : LineLayers} (line-is : LineLa
         put-place registers semi flags back _ (getD at 0 0) a _ refl,
       )))
 
-  pub column-pair : putObject (backgroundPair line word a b c d) (bit objectsBit word) (objectTag (line .object) e) (e .color .0)
+  pub column-pair : columnPair line word (objectTag (line .object) e) (e .color .0) a b c d
       ≡ pairOf registers (semiMark e) (layers registers flags (backdrop palette) (placedLayers registers at a b c d) e)
-  unfolding layers objectCounts
+  unfolding columnPair layers objectCounts
   column-pair =
       rw (background-pair, region-bits (enableObj (dispcnt registers)) at flags .objects-is, line-is .object-is, tag-object registers (semiMark e) e refl)
       (place-object registers (semiMark e) (objectLayer e) _ _)

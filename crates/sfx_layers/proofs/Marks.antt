@@ -13,7 +13,7 @@ use Rattle.regs_blend.specs.Layers.{backgroundLayer, targets}
 use Rattle.regs_blend.specs.Blend.{target1, target2}
 use Rattle.regs_blend.specs.declared.layer.RenderLayerKind.{RenderLayerKind}
 use Rattle.regs_blend.specs.declared.layer.RenderLayerKind.the-variants.{Objects}
-use Rattle.sfx_layers.specs.Code.{layerTag, semiBit, placeTag, isShown, goesOver, putBackground, backgroundPair, putObject, LineLayersOf, Unmarked}
+use Rattle.sfx_layers.specs.Code.{layerTag, semiBit, placeTag, isShown, goesOver, putBackground, backgroundPair, putObject, objectsBit, columnPair, LineLayersOf, Unmarked}
 use Rattle.sfx_layers.specs.declared.layer.LineLayers.{LineLayers}
 use Rattle.sfx_layers.proofs.Tags.{asBit-bound}
 
@@ -71,8 +71,9 @@ module _ {line : LineLayers} (unmarked-is : Unmarked line) (region a b c d : ℕ
       (unmarked-is .backdrop-plain))))
 
   -- With an object whose tag has no mark either, the top of a column has none.
-  pub top-plain : (permitted : Bool) (tag object : ℕ) → bit semiBit tag ≡ false
-      → bit semiBit (putObject (backgroundPair line region a b c d) permitted tag object .«top_tag») ≡ false
-  unfolding putObject
-  top-plain permitted tag object plain =
-      cond-plain (goesOver permitted tag object (backgroundPair line region a b c d .«top_tag»)) _ _ plain backgroundPair-plain
+  pub columnPair-plain : (tag object : ℕ) → bit semiBit tag ≡ false
+      → bit semiBit (columnPair line region tag object a b c d .«top_tag») ≡ false
+  unfolding columnPair putObject
+  columnPair-plain tag object plain =
+      cond-plain (goesOver (bit objectsBit region) tag object (backgroundPair line region a b c d .«top_tag»)) _ _ plain
+      backgroundPair-plain

@@ -179,3 +179,10 @@ regionWord objects at flags =
 abbrev pub columnRegion : Reading → List ℕ → List ℕ → List ℕ → ℕ → ℕ → ℕ
 columnRegion reading registers entries at line column =
     regionWord (enableObj (dispcnt registers)) at (permitted registers (regionAt reading registers entries column line))
+
+-- ---- a column
+
+-- The layers of a column, by its line, what its region permits, its object's tag and colour and the colour of each place.
+unfoldable pub columnPair : LineLayers → ℕ → ℕ → ℕ → ℕ → ℕ → ℕ → ℕ → LayerPair
+columnPair line region tag object a b c d =
+    putObject (backgroundPair line region a b c d) (bit objectsBit region) tag object

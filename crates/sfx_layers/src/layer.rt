@@ -3,7 +3,8 @@ ghost use mathlib.Core.Path.{_≡_};
 ghost use Prim.Native.Nat.{_≤_};
 ghost use lib.ListN.{length};
 ghost use Rattle.memory.specs.Sizes.{paletteRamSize, registersSize};
-ghost use Rattle.sfx_layers.specs.Code.{asBit, layerTag, modeNumber, objectTag, placeTag, LineLayersOf, isShown, putBackground, backgroundPair, putObject};
+ghost use Rattle.sfx_layers.specs.Code.{asBit, layerTag, modeNumber, objectTag, placeTag, LineLayersOf, isShown, putBackground, backgroundPair, putObject, columnPair};
+use crate::region::OBJECTS;
 use crate::region::PLACE0;
 use crate::region::PLACE1;
 use crate::region::PLACE2;
@@ -150,7 +151,7 @@ fn put_background(behind: LayerPair, permitted: bool, tag: u16, color: u16) -> L
 
 // The layers of a column's backgrounds, put from the last place to the first: the first two that count, the backdrop
 // filling in.
-pub fn background_pair(
+fn background_pair(
     line: LineLayers,
     region: u16,
     color0: Rgb15,
@@ -173,7 +174,7 @@ pub fn background_pair(
 }
 
 // An object's pixel, if it is shown: on top if its priority is at most the top's, else second if at most the bottom's.
-pub fn put_object(behind: LayerPair, permitted: bool, tag: u16, color: u16) -> LayerPair
+fn put_object(behind: LayerPair, permitted: bool, tag: u16, color: u16) -> LayerPair
     ensures { λ r. ⌜ r ≡ putObject behind permitted tag color ⌝ }
 {
     let shown = is_shown(permitted, color);
@@ -189,4 +190,21 @@ pub fn put_object(behind: LayerPair, permitted: bool, tag: u16, color: u16) -> L
             choose(second, tag, behind.bottom_tag),
         ),
     }
+}
+
+// The layers of a column, by what its region permits, its object's tag and colour and the colour of each place.
+pub fn column_pair(
+    line: LineLayers,
+    region: u16,
+    tag: u16,
+    object: u16,
+    color0: Rgb15,
+    color1: Rgb15,
+    color2: Rgb15,
+    color3: Rgb15,
+) -> LayerPair
+    ensures { λ r. ⌜ r ≡ columnPair line region tag object (color0 .0) (color1 .0) (color2 .0) (color3 .0) ⌝ }
+{
+    let backgrounds = background_pair(line, region, color0, color1, color2, color3);
+    put_object(backgrounds, region / OBJECTS % 2 == 1, tag, object)
 }

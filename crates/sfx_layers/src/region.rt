@@ -28,7 +28,7 @@ pub(crate) const PLACE2: u16 = 0x4;
 
 pub(crate) const PLACE3: u16 = 0x8;
 
-pub const OBJECTS: u16 = 0x10;
+pub(crate) const OBJECTS: u16 = 0x10;
 
 pub const EFFECTS: u16 = 0x20;
 
