@@ -11,27 +11,27 @@ use Rattle.regs.specs.Registers.{win0h, win0v, win0Flags, win1h, win1v, win1Fla
 use Rattle.regs_window.specs.declared.Window.{Window}
 
 -- The left edge is the high byte of H (LCD I/O Window Feature).
-abbrev pub left : ℕ → ℕ
-left h = bits 15 8 h
+abbrev pub windowLeft : ℕ → ℕ
+windowLeft h = bits 15 8 h
 
 -- The right edge is the low byte of H (LCD I/O Window Feature).
-abbrev pub right : ℕ → ℕ
-right h = bits 7 0 h
+abbrev pub windowRight : ℕ → ℕ
+windowRight h = bits 7 0 h
 
 -- The top is the high byte of V (LCD I/O Window Feature).
-abbrev pub top : ℕ → ℕ
-top v = bits 15 8 v
+abbrev pub windowTop : ℕ → ℕ
+windowTop v = bits 15 8 v
 
 -- The bottom is the low byte of V (LCD I/O Window Feature).
-abbrev pub bottom : ℕ → ℕ
-bottom v = bits 7 0 v
+abbrev pub windowBottom : ℕ → ℕ
+windowBottom v = bits 7 0 v
 
 -- A window is what its words H and V say, and permits what its flags say.
 pub record WindowOf (h v flags : ℕ) (w : Window) : Type 0 where
-  pub left-is : w .left ≡ left h
-  pub right-is : w .right ≡ right h
-  pub top-is : w .top ≡ top v
-  pub bottom-is : w .bottom ≡ bottom v
+  pub left-is : w .left ≡ windowLeft h
+  pub right-is : w .right ≡ windowRight h
+  pub top-is : w .top ≡ windowTop v
+  pub bottom-is : w .bottom ≡ windowBottom v
   pub flags-are : w .flags .0 ≡ flags
 
 -- Window 0 as the registers have it.

@@ -1,7 +1,7 @@
 -- The laws of rows, for the proofs of this crate and of those above it, which reach them as Rattle.rows.proofs.NAME.
 -- No contract cites them. Assumes nothing.
 --
--- Bytes, Cells, Words, Tab, Below, Bits and Marks have the laws of what specs/ defines. The others have loops: a record that the
+-- Bytes, Cells, Words, Tab and Below have the laws of what specs/ defines. The others have loops: a record that the
 -- loop keeps, and the laws that answer where it begins, turns and ends. Passed: cells of a row. Tabbed: elements of an array.
 -- Columns: what a loop over 240 columns computes.
 --
@@ -18,11 +18,9 @@
 --   -fails, -full         where one fails, where none does
 --   -bound                at most
 pub mod Below
-pub mod Bits
 pub mod Bytes
 pub mod Cells
 pub mod Columns
-pub mod Marks
 pub mod Passed
 pub mod Tab
 pub mod Tabbed

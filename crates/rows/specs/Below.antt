@@ -1,5 +1,5 @@
 -- Tests and sums over the numbers below one, as the columns of a line (01, "Numbers a draw may return": an entry not well
--- shaped; "Windows and blending": the count of marks, and edges of which the right is exclusive). Assumes nothing.
+-- shaped; "Windows and blending": how many columns are claimed, and edges of which the right is exclusive). Assumes nothing.
 use mathlib.Core.Bool.{Bool, true, _&&_, cond}
 use Prim.Native.Nat.{ℕ, zero, suc, _+_}
 use lib.Dec.{leb, ltb}

@@ -1,11 +1,10 @@
-// Rows of four-byte words, and the marks of 240 columns. The laws of rows are in proofs/.
+// Rows of four-byte words, and a choice for loops over columns. The laws of rows are in proofs/.
 ghost use mathlib.Core.Path.{_≡_};
+ghost use mathlib.Core.Bool.{cond};
 ghost use Prim.Native.Nat.{_+_, _*_, _≤_};
-ghost use lib.Count.{ones};
 ghost use lib.ListN.{length};
 ghost use Rattle.rows.specs.Cells.{cellAt, putCell};
 ghost use Rattle.rows.specs.Words.{wordCells};
-ghost use Rattle.rows.specs.Marks.{countMarks, Clean};
 
 // The number in four bytes, the low one first.
 fn word_of(a: u8, b: u8, c: u8, d: u8) -> u32
@@ -35,17 +34,10 @@ pub fn put_word(row: &mut [u8], k: usize, w: u32)
     row[i + 3] = (w / 0x1000000) as u8;
 }
 
-// How many marks a word has.
-fn ones_of(word: u64) -> u32
-    ensures { λ r. ⌜ (r ≡ ones word) × (r ≤ 64) ⌝ }
+// The first number where the test holds, else the second. In a loop over columns every choice is made by this function, of numbers
+// that are there already: so the loop has no other branches, and runs on several columns at once.
+pub fn choose(test: bool, then: u16, other: u16) -> u16
+    ensures { λ r. ⌜ r ≡ cond test then other ⌝ }
 {
-    u64::count_ones(word)
-}
-
-// How many of the 240 columns are marked.
-pub fn count_marks(marks: [u64; 4]) -> u32
-    requires { ⌜ Clean marks ⌝ }
-    ensures { λ r. ⌜ r ≡ countMarks marks ⌝ }
-{
-    ones_of(marks[0]) + ones_of(marks[1]) + ones_of(marks[2]) + ones_of(marks[3])
+    if test { then } else { other }
 }

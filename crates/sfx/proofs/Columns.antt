@@ -17,22 +17,22 @@ use Rattle.regs.specs.declared.reading.Reading.{Reading}
 use Rattle.obj_entries.specs.Entry.{entryCells, semiMark}
 use Rattle.obj_entries.specs.declared.Entry.{Entry}
 use Rattle.sfx_regions.specs.Region.{permitted}
-use Rattle.sfx_regions.specs.Code.{regionAt}
 use Rattle.sfx_regions.specs.declared.WindowType.{WindowType}
 use Rattle.sfx_sorting.specs.Ordered.{ordered}
 use Rattle.sfx_sorting.specs.Code.{places}
-use Rattle.sfx_layers.specs.Layers.{Pair, backgrounds, layers}
-use Rattle.sfx_layers.specs.Code.{lineColor, placedLayers, objectTag, regionWord, columnRegion, LineLayersOf}
+use Rattle.sfx_layers.specs.Layers.{backgrounds}
+use Rattle.sfx_layers.specs.Code.{lineColor, objectTag, regionWord, columnRegion, LineLayersOf}
 use Rattle.sfx_layers.specs.declared.layer.LineLayers.{LineLayers}
-use Rattle.sfx_layers.proofs.Columns.{placedColors, column-pair, region-bits}
+use Rattle.sfx_layers.proofs.Columns.{column-pair}
+use Rattle.sfx_layers.proofs.Places.{placedLayers, placedLayers-ordered}
+use Rattle.sfx_layers.proofs.Tags.{region-bits}
 use Rattle.sfx_effects.specs.Code.{WeightsOf}
 use Rattle.sfx_effects.specs.declared.Weights.{Weights}
 use Rattle.sfx_effects.proofs.Colors.{pair-color}
 use Rattle.sfx.specs.Pixel.{caseIn, caseOf, caseColor, pixel}
 use Rattle.sfx.specs.Code.{columnColor, atColumn}
-use Rattle.sfx.proofs.Lines.{placedLayers-lines}
 
--- ---- a column's pixel
+-- ---- a column
 
 -- The colour of a column in a region is that of its case.
 column-color : (palette registers at : List ℕ) {line : LineLayers} → LineLayersOf palette registers at line
@@ -40,19 +40,16 @@ column-color : (palette registers at : List ℕ) {line : LineLayers} → LineLay
     → toRgb24
     (columnColor line w (regionWord (enableObj (dispcnt registers)) at (permitted registers kind))
     (objectTag (line .object) e) (e .color .0) a b c d)
-    ≡ toRgb24
-    (caseColor reading registers
-    (caseIn registers kind (backdrop palette) (placedColors registers at a b c d) e))
+    ≡ toRgb24 (caseColor reading registers (caseIn registers kind (backdrop palette) (placedLayers registers at a b c d) e))
 unfolding columnColor caseColor caseIn
 column-color palette registers at line-is a b c d e reading w-is kind =
     let flags = permitted registers kind in
-    let p : Pair = layers registers flags (backdrop palette) (placedColors registers at a b c d) e in
     rw (
       column-pair palette registers at line-is a b c d e flags,
       line-is .mode-is,
-      region-bits (enableObj (dispcnt registers)) at flags .5,
+      region-bits (enableObj (dispcnt registers)) at flags .effects-is,
     )
-    (pair-color reading registers (semiMark e) flags p w-is)
+    (pair-color reading registers (semiMark e) flags _ w-is)
 
 -- ---- a line
 
@@ -68,18 +65,17 @@ module _ (reading : Reading) (palette registers entries at : List ℕ) (line : �
       → tags ≡ tab (λ k. objectTag (l .object) (cellAt entryCells entries k)) 240
       → objects ≡ tab (λ k. cellAt entryCells entries k .color .0) 240
       → toRgb24 (atColumn (columnColor l w) regions tags objects first second third fourth column .0)
-      ≡ pixel reading registers (backdrop palette) (placedLayers registers at first second third fourth column)
+      ≡ pixel reading registers (backdrop palette)
+      (placedLayers registers at (lineColor first column) (lineColor second column) (lineColor third column) (lineColor fourth column))
       (cellAt entryCells entries column) column line
-  unfolding pixel caseOf placedLayers placedColors atColumn
+  unfolding pixel caseOf atColumn
   pixel-is first second third fourth column lt regions-is l-is w-is tags-are objects-are =
       rw (
         getD-of-tab _ 240 column 0 regions-is lt,
         getD-of-tab _ 240 column 0 tags-are lt,
         getD-of-tab _ 240 column 0 objects-are lt,
       )
-      (column-color palette registers at l-is
-      (lineColor first column) (lineColor second column) (lineColor third column) (lineColor fourth column)
-      (cellAt entryCells entries column) reading w-is (regionAt reading registers entries column line))
+      (column-color palette registers at l-is _ _ _ _ (cellAt entryCells entries column) reading w-is _)
 
   pub scanline-is : (lineOf : ℕ → List Rgb15) {regions tags objects pixels out : List ℕ} {l : LineLayers} {w : Weights}
       {first second third fourth colors : List Rgb15}
@@ -106,5 +102,6 @@ module _ (reading : Reading) (palette registers entries at : List ℕ) (line : �
       getD-of-tab _ 240 column 0 pixels-are lt
       ∙ ap (λ (c : Rgb15). toRgb24 (c .0)) (getD-of-tab _ 240 column (rgb 0) colors-are lt)
       ∙ pixel-is _ _ _ _ column lt regions-is l-is w-is tags-are objects-are
-      ∙ ap (λ bgs. pixel reading registers (backdrop palette) bgs (cellAt entryCells entries column) column line)
-      (placedLayers-lines registers at lineOf at-is first-is second-is third-is fourth-is column lt))
+      ∙ rw (first-is, second-is, third-is, fourth-is)
+      (ap (λ bgs. pixel reading registers (backdrop palette) bgs (cellAt entryCells entries column) column line)
+      (placedLayers-ordered registers (λ bg. lineColor (lineOf bg) column) at-is)))

@@ -6,7 +6,7 @@ use lib.ListN.{getD}
 use Rattle.rgb15.specs.declared.Rgb15.{Rgb15}
 use Rattle.bits.specs.Bits.{bit}
 use Rattle.rgb15.specs.Colour.{rgb}
-use Rattle.sfx_layers.specs.Code.{lineColor, putObject, backgroundPair}
+use Rattle.sfx_layers.specs.Code.{lineColor, effectsBit, columnPair}
 use Rattle.sfx_layers.specs.declared.layer.LineLayers.{LineLayers}
 use Rattle.sfx_effects.specs.Code.{fadedColor, pairColor}
 use Rattle.sfx_effects.specs.declared.Weights.{Weights}
@@ -20,14 +20,13 @@ bgLine line0 line1 line2 line3 bg = getD (line0 ∷ line1 ∷ line2 ∷ line3 �
 -- The colour of a column, by its line, what its region permits, its object's tag and colour and the colour of each place.
 unfoldable pub columnColor : LineLayers → Weights → ℕ → ℕ → ℕ → ℕ → ℕ → ℕ → ℕ → ℕ
 columnColor line w region tag object a b c d =
-    pairColor w (line .mode) (bit 5 region)
-    (putObject (backgroundPair line region a b c d) (bit 4 region) tag object)
+    pairColor w (line .mode) (bit effectsBit region) (columnPair line region tag object a b c d)
 
 -- The colour of a column by its top alone.
 unfoldable pub topColor : LineLayers → Weights → ℕ → ℕ → ℕ → ℕ → ℕ → ℕ → ℕ → ℕ
 topColor line w region tag object a b c d =
-    let p = putObject (backgroundPair line region a b c d) (bit 4 region) tag object in
-    fadedColor w (line .mode) (bit 5 region) (p .top) (p .«top_tag»)
+    let p = columnPair line region tag object a b c d in
+    fadedColor w (line .mode) (bit effectsBit region) (p .top) (p .«top_tag»)
 
 -- ---- a line
 

@@ -1,7 +1,8 @@
 // Composing a line (gpu/sfx.rs). The loops over columns work on halfwords, of which a vector holds eight.
 ghost use mathlib.Core.Path.{_≡_};
-ghost use Prim.Native.Nat.{_/_, _%_, _≤_};
+ghost use Prim.Native.Nat.{_≤_};
 ghost use lib.ListN.{length, getD};
+ghost use Rattle.bits.specs.Bits.{bits};
 ghost use Rattle.rgb15.specs.Colour.{toRgb24};
 ghost use Rattle.rows.specs.Below.{tally};
 ghost use Rattle.rows.specs.Cells.{cellAt, rowOf};
@@ -13,7 +14,7 @@ ghost use Rattle.regs.specs.Registers.{bldy};
 ghost use Rattle.regs.specs.Reading.{counted};
 ghost use Rattle.obj_entries.specs.Entry.{entriesSize, entryCells};
 ghost use Rattle.sfx_layers.specs.Layers.{backgrounds};
-ghost use Rattle.sfx_layers.specs.Code.{lineColor, Unmarked, objectTag};
+ghost use Rattle.sfx_layers.specs.Code.{lineColor, semiBit, Unmarked, objectTag};
 ghost use Rattle.sfx_effects.specs.Code.{Weighed};
 ghost use Rattle.sfx.specs.Code.{bgLine, columnColor, topColor, atColumn};
 ghost use Rattle.sfx.specs.Pixel.{pixel};
@@ -27,13 +28,14 @@ use sfx_effects::Weights;
 use sfx_effects::do_effect;
 use sfx_effects::do_fade;
 use sfx_effects::line_weights;
+use sfx_layers::EFFECTS;
 use sfx_layers::LineLayers;
+use sfx_layers::MODE_ALPHA;
 use sfx_layers::SEMI_OBJECT;
-use sfx_layers::background_pair;
+use sfx_layers::column_pair;
 use sfx_layers::line_layers;
 use sfx_layers::line_regions;
 use sfx_layers::object_tag;
-use sfx_layers::put_object;
 use sfx_sorting::sort_backgrounds;
 
 // The colour of a column.
@@ -51,9 +53,8 @@ fn finalize_pixel(
     requires { ⌜ Weighed weights ⌝ }
     ensures { λ r. ⌜ r .0 ≡ columnColor line weights region tag object (color0 .0) (color1 .0) (color2 .0) (color3 .0) ⌝ }
 {
-    let backgrounds = background_pair(line, region, color0, color1, color2, color3);
-    let layers = put_object(backgrounds, region / 0x10 % 2 == 1, tag, object);
-    do_effect(weights, line.mode, region / 0x20 % 2 == 1, layers)
+    let layers = column_pair(line, region, tag, object, color0, color1, color2, color3);
+    do_effect(weights, line.mode, region / EFFECTS % 2 == 1, layers)
 }
 
 // The colour of a column whose layers aren't blended, by the top alone: the compiler drops the bottom.
@@ -71,23 +72,22 @@ fn top_pixel(
     requires { ⌜ Weighed weights ⌝ }
     ensures { λ r. ⌜ r .0 ≡ topColor line weights region tag object (color0 .0) (color1 .0) (color2 .0) (color3 .0) ⌝ }
 {
-    let backgrounds = background_pair(line, region, color0, color1, color2, color3);
-    let layers = put_object(backgrounds, region / 0x10 % 2 == 1, tag, object);
+    let layers = column_pair(line, region, tag, object, color0, color1, color2, color3);
     do_fade(
         weights,
         line.mode,
-        region / 0x20 % 2 == 1,
+        region / EFFECTS % 2 == 1,
         layers.top,
         layers.top_tag,
     )
 }
 
 // The colours of a line's entries.
-fn object_colors(entries: &[u8]) -> [u16; 240]
+fn object_colors(entries: &[u8]) -> [u16; DISPLAY_WIDTH]
     requires { ⌜ length (now entries) ≡ entriesSize ⌝ }
     ensures { λ r. ⌜ r ≡ tab (λ column. cellAt entryCells (now (entries .entry)) column .color .0) 240 ⌝ }
 {
-    let mut colors = [0u16; 240];
+    let mut colors = [0u16; DISPLAY_WIDTH];
     let mut column: usize = 0;
     while column < DISPLAY_WIDTH {
         colors[column] = entry_at(entries, column).color.0;
@@ -97,11 +97,11 @@ fn object_colors(entries: &[u8]) -> [u16; 240]
 }
 
 // The tags of a line's entries as layers.
-fn object_tags(entries: &[u8], tag: u16) -> [u16; 240]
+fn object_tags(entries: &[u8], tag: u16) -> [u16; DISPLAY_WIDTH]
     requires { ⌜ (length (now entries) ≡ entriesSize) × (tag ≤ 3) ⌝ }
     ensures { λ r. ⌜ r ≡ tab (λ column. objectTag tag (cellAt entryCells (now (entries .entry)) column)) 240 ⌝ }
 {
-    let mut tags = [0u16; 240];
+    let mut tags = [0u16; DISPLAY_WIDTH];
     let mut column: usize = 0;
     while column < DISPLAY_WIDTH {
         tags[column] = object_tag(tag, entry_at(entries, column));
@@ -114,18 +114,18 @@ fn object_tags(entries: &[u8], tag: u16) -> [u16; 240]
 fn finalize_row(
     line: LineLayers,
     weights: Weights,
-    regions: [u16; 240],
-    tags: [u16; 240],
-    objects: [u16; 240],
-    line0: [Rgb15; 240],
-    line1: [Rgb15; 240],
-    line2: [Rgb15; 240],
-    line3: [Rgb15; 240],
-) -> [Rgb15; 240]
+    regions: [u16; DISPLAY_WIDTH],
+    tags: [u16; DISPLAY_WIDTH],
+    objects: [u16; DISPLAY_WIDTH],
+    line0: [Rgb15; DISPLAY_WIDTH],
+    line1: [Rgb15; DISPLAY_WIDTH],
+    line2: [Rgb15; DISPLAY_WIDTH],
+    line3: [Rgb15; DISPLAY_WIDTH],
+) -> [Rgb15; DISPLAY_WIDTH]
     requires { ⌜ Weighed weights ⌝ }
     ensures { λ r. ⌜ r ≡ tab (atColumn (columnColor line weights) regions tags objects line0 line1 line2 line3) 240 ⌝ }
 {
-    let mut colors = [Rgb15::BLACK; 240];
+    let mut colors = [Rgb15::BLACK; DISPLAY_WIDTH];
     let mut column: usize = 0;
     while column < DISPLAY_WIDTH {
         colors[column] = finalize_pixel(
@@ -148,18 +148,18 @@ fn finalize_row(
 fn top_row(
     line: LineLayers,
     weights: Weights,
-    regions: [u16; 240],
-    tags: [u16; 240],
-    objects: [u16; 240],
-    line0: [Rgb15; 240],
-    line1: [Rgb15; 240],
-    line2: [Rgb15; 240],
-    line3: [Rgb15; 240],
-) -> [Rgb15; 240]
+    regions: [u16; DISPLAY_WIDTH],
+    tags: [u16; DISPLAY_WIDTH],
+    objects: [u16; DISPLAY_WIDTH],
+    line0: [Rgb15; DISPLAY_WIDTH],
+    line1: [Rgb15; DISPLAY_WIDTH],
+    line2: [Rgb15; DISPLAY_WIDTH],
+    line3: [Rgb15; DISPLAY_WIDTH],
+) -> [Rgb15; DISPLAY_WIDTH]
     requires { ⌜ Weighed weights ⌝ }
     ensures { λ r. ⌜ r ≡ tab (atColumn (topColor line weights) regions tags objects line0 line1 line2 line3) 240 ⌝ }
 {
-    let mut colors = [Rgb15::BLACK; 240];
+    let mut colors = [Rgb15::BLACK; DISPLAY_WIDTH];
     let mut column: usize = 0;
     while column < DISPLAY_WIDTH {
         colors[column] = top_pixel(
@@ -179,8 +179,8 @@ fn top_row(
 }
 
 // How many of a line's entries are semi-transparent.
-fn count_semi(tags: [u16; 240]) -> u16
-    ensures { λ r. ⌜ r ≡ tally (λ column. getD tags column 0 / 4 % 2) 240 ⌝ }
+fn count_semi(tags: [u16; DISPLAY_WIDTH]) -> u16
+    ensures { λ r. ⌜ r ≡ tally (λ column. bits semiBit semiBit (getD tags column 0)) 240 ⌝ }
 {
     let mut count: u16 = 0;
     let mut column: usize = 0;
@@ -195,19 +195,19 @@ fn count_semi(tags: [u16; 240]) -> u16
 fn compose_row(
     line: LineLayers,
     weights: Weights,
-    regions: [u16; 240],
-    tags: [u16; 240],
-    objects: [u16; 240],
-    line0: [Rgb15; 240],
-    line1: [Rgb15; 240],
-    line2: [Rgb15; 240],
-    line3: [Rgb15; 240],
-) -> [Rgb15; 240]
+    regions: [u16; DISPLAY_WIDTH],
+    tags: [u16; DISPLAY_WIDTH],
+    objects: [u16; DISPLAY_WIDTH],
+    line0: [Rgb15; DISPLAY_WIDTH],
+    line1: [Rgb15; DISPLAY_WIDTH],
+    line2: [Rgb15; DISPLAY_WIDTH],
+    line3: [Rgb15; DISPLAY_WIDTH],
+) -> [Rgb15; DISPLAY_WIDTH]
     requires { ⌜ Weighed weights × Unmarked line ⌝ }
     ensures { λ r. ⌜ r ≡ tab (atColumn (columnColor line weights) regions tags objects line0 line1 line2 line3) 240 ⌝ }
 {
     let semi = count_semi(tags);
-    if (line.mode != 1) & (semi == 0) {
+    if (line.mode != MODE_ALPHA) & (semi == 0) {
         top_row(
             line,
             weights,
@@ -235,10 +235,10 @@ fn compose_row(
 }
 
 // The 24-bit forms of a line's colours.
-fn wide_row(colors: [Rgb15; 240]) -> [u32; 240]
+fn wide_row(colors: [Rgb15; DISPLAY_WIDTH]) -> [u32; DISPLAY_WIDTH]
     ensures { λ r. ⌜ r ≡ tab (λ column. toRgb24 (lineColor colors column)) 240 ⌝ }
 {
-    let mut pixels = [0u32; 240];
+    let mut pixels = [0u32; DISPLAY_WIDTH];
     let mut column: usize = 0;
     while column < DISPLAY_WIDTH {
         pixels[column] = colors[column].to_rgb24();
@@ -248,7 +248,7 @@ fn wide_row(colors: [Rgb15; 240]) -> [u32; 240]
 }
 
 // The output of a row of pixels.
-fn write_row(output: &mut [u8], pixels: [u32; 240])
+fn write_row(output: &mut [u8], pixels: [u32; DISPLAY_WIDTH])
     requires { ⌜ length (now output) ≡ 960 ⌝ }
     ensures { λ _. ⌜ now (output .exit) ≡ rowOf wordCells (λ column. getD pixels column 0) 240 ⌝ }
 {
@@ -262,11 +262,11 @@ fn write_row(output: &mut [u8], pixels: [u32; 240])
 // The line of the background in a place; where it has none, the region permits no line, so any serves.
 fn line_in_place(
     place: usize,
-    line0: [Rgb15; 240],
-    line1: [Rgb15; 240],
-    line2: [Rgb15; 240],
-    line3: [Rgb15; 240],
-) -> [Rgb15; 240]
+    line0: [Rgb15; DISPLAY_WIDTH],
+    line1: [Rgb15; DISPLAY_WIDTH],
+    line2: [Rgb15; DISPLAY_WIDTH],
+    line3: [Rgb15; DISPLAY_WIDTH],
+) -> [Rgb15; DISPLAY_WIDTH]
     ensures { λ r. ⌜ r ≡ bgLine line0 line1 line2 line3 place ⌝ }
 {
     match place {
@@ -285,10 +285,10 @@ pub fn finalize_scanline(
     registers: &[u8],
     reading: Reading,
     line: usize,
-    line0: [Rgb15; 240],
-    line1: [Rgb15; 240],
-    line2: [Rgb15; 240],
-    line3: [Rgb15; 240],
+    line0: [Rgb15; DISPLAY_WIDTH],
+    line1: [Rgb15; DISPLAY_WIDTH],
+    line2: [Rgb15; DISPLAY_WIDTH],
+    line3: [Rgb15; DISPLAY_WIDTH],
 )
     requires { ⌜ (length (now output) ≡ 960)
         × (length (now entries) ≡ entriesSize)

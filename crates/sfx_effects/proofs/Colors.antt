@@ -11,15 +11,16 @@ use Rattle.rgb15.proofs.Laws.{toRgb24-blendWith-first}
 use Rattle.regs.specs.Registers.{bldcnt, bldy}
 use Rattle.regs.specs.Reading.{counted}
 use Rattle.regs.specs.declared.reading.Reading.{Reading}
-use Rattle.regs_window.specs.Windows.{permits}
+use Rattle.regs_window.specs.Windows.{permitsEffects}
 use Rattle.regs_blend.specs.Layers.{targets}
 use Rattle.regs_blend.specs.Blend.{target1, target2, blendMode}
 use Rattle.regs_blend.specs.declared.BlendMode.{BlendMode}
 use Rattle.regs_blend.specs.declared.BlendMode.the-variants.{BldNone, BldAlpha, BldWhite, BldBlack}
 use Rattle.sfx_layers.specs.Layers.{Pair, isObject}
-use Rattle.sfx_layers.specs.Code.{modeNumber}
+use Rattle.sfx_layers.specs.Code.{firstBit, secondBit, semiBit, modeNumber}
 use Rattle.sfx_layers.specs.declared.layer.LayerPair.{LayerPair}
-use Rattle.sfx_layers.proofs.Columns.{pairOf, first-of, second-of, semi-of}
+use Rattle.sfx_layers.proofs.Columns.{pairOf}
+use Rattle.sfx_layers.proofs.Tags.{tag-bits}
 use Rattle.sfx_effects.specs.Effects.{none, spriteBlend, controlEffect, effect, alpha, fade, effectColor}
 use Rattle.sfx_effects.specs.Code.{isBlended, isFaded, fadeColor, fadeWeight, fadedColor, pairColor, WeightsOf}
 use Rattle.sfx_effects.specs.declared.Weights.{Weights}
@@ -50,13 +51,13 @@ module _ (reading : Reading) (registers : List ℕ) (w : Weights) (w-is : Weight
   -- target, first whether the top is a first target that effects are permitted of.
   effect-color : (mode : BlendMode) (semi second first : Bool)
       → toRgb24
-      (blendedColor w (modeNumber mode) top bottom (second && (semi || (first && eqb (modeNumber mode) 1)))
-      (first && leb 2 (modeNumber mode)))
+      (blendedColor w (modeNumber mode) top bottom (second && (semi || (first && eqb (modeNumber mode) (modeNumber BldAlpha))))
+      (first && leb (modeNumber BldWhite) (modeNumber mode)))
       ≡ toRgb24
       (effectColor reading registers (cond (semi && second) spriteBlend (cond first (controlEffect mode second) none))
       top bottom)
   unfolding effectColor controlEffect
-  effect-color mode true true first = alpha-color (modeNumber mode) (first && leb 2 (modeNumber mode))
+  effect-color mode true true first = alpha-color (modeNumber mode) (first && leb (modeNumber BldWhite) (modeNumber mode))
   effect-color mode false second false = unlit second
     where
       unlit : (second : Bool) → toRgb24 (blendedColor w (modeNumber mode) top bottom (second && false) false) ≡ toRgb24 top
@@ -79,21 +80,22 @@ module _ (reading : Reading) (registers : List ℕ) (w : Weights) (w-is : Weight
 -- The colour of two layers is that of their effect; semi is whether the object is semi-transparent.
 pub pair-color : (reading : Reading) (registers : List ℕ) (semi : Bool) (flags : ℕ) {w : Weights} (p : Pair)
     → WeightsOf reading registers w
-    → toRgb24 (pairColor w (modeNumber (blendMode (bldcnt registers))) (permits flags 5) (pairOf registers semi p))
+    → toRgb24 (pairColor w (modeNumber (blendMode (bldcnt registers))) (permitsEffects flags) (pairOf registers semi p))
     ≡ toRgb24 (effectColor reading registers (effect registers flags semi p) (p .top .color) (p .bottom .color))
 unfolding pairColor isBlended fadeWeight isFaded effect pairOf blendedColor
 pair-color reading registers semi flags {w} p w-is =
     let control = bldcnt registers in
     let top = p .top in
     let bottom = p .bottom in
-    rw (second-of registers semi bottom, semi-of registers semi top, first-of registers semi top)
+    let top-bits = tag-bits registers semi top in
+    rw (tag-bits registers semi bottom .second-is, top-bits .semi-is, top-bits .first-is)
     (effect-color reading registers w w-is (top .color) (bottom .color) (blendMode control) (isObject (top .kind) && semi)
-    (targets (target2 control) (bottom .kind)) (permits flags 5 && targets (target1 control) (top .kind)))
+    (targets (target2 control) (bottom .kind)) (permitsEffects flags && targets (target1 control) (top .kind)))
 
 -- Without the mark on top and without the control's blend, the bottom doesn't count.
 pub pairColor-top : (w : Weights) (mode : ℕ) (permitted : Bool) (p : LayerPair)
-    → eqb mode 1 ≡ false → bit 2 (p .«top_tag») ≡ false
+    → eqb mode (modeNumber BldAlpha) ≡ false → bit semiBit (p .«top_tag») ≡ false
     → pairColor w mode permitted p ≡ fadedColor w mode permitted (p .top) (p .«top_tag»)
 unfolding pairColor fadedColor isBlended
 pairColor-top w mode permitted p other plain =
-    rw (plain, other, and-false (permitted && bit 0 (p .«top_tag»)), and-false (bit 1 (p .«bottom_tag»)))
+    rw (plain, other, and-false (permitted && bit firstBit (p .«top_tag»)), and-false (bit secondBit (p .«bottom_tag»)))

@@ -11,6 +11,8 @@ use Rattle.regs.specs.Registers.{bldalpha, bldy}
 use Rattle.regs.specs.Reading.{counted}
 use Rattle.regs.specs.declared.reading.Reading.{Reading}
 use Rattle.regs_blend.specs.Blend.{eva, evb}
+use Rattle.regs_blend.specs.declared.BlendMode.the-variants.{BldAlpha, BldWhite}
+use Rattle.sfx_layers.specs.Code.{firstBit, secondBit, semiBit, modeNumber}
 use Rattle.sfx_layers.specs.declared.layer.LayerPair.{LayerPair}
 use Rattle.sfx_effects.specs.declared.Weights.{Weights}
 
@@ -19,11 +21,12 @@ use Rattle.sfx_effects.specs.declared.Weights.{Weights}
 -- Whether two layers are blended, by the control's mode and whether effects are permitted.
 unfoldable pub isBlended : ℕ → Bool → LayerPair → Bool
 isBlended mode permitted p =
-    bit 1 (p .«bottom_tag») && (bit 2 (p .«top_tag») || ((permitted && bit 0 (p .«top_tag»)) && eqb mode 1))
+    bit secondBit (p .«bottom_tag»)
+    && (bit semiBit (p .«top_tag») || ((permitted && bit firstBit (p .«top_tag»)) && eqb mode (modeNumber BldAlpha)))
 
 -- Whether a top that isn't blended is made white or black, by its tag.
 unfoldable pub isFaded : ℕ → Bool → ℕ → Bool
-isFaded mode permitted tag = (permitted && bit 0 tag) && leb 2 mode
+isFaded mode permitted tag = (permitted && bit firstBit tag) && leb (modeNumber BldWhite) mode
 
 -- ---- colours
 
@@ -41,7 +44,7 @@ pub record Weighed (w : Weights) : Type 0 where
 
 -- The colour that such a top is blended with, by the control's mode.
 abbrev pub fadeColor : ℕ → ℕ
-fadeColor mode = cond (eqb mode 2) white black
+fadeColor mode = cond (eqb mode (modeNumber BldWhite)) white black
 
 -- The weight of that colour: with 0 the top shows as it is.
 unfoldable pub fadeWeight : Weights → ℕ → Bool → ℕ → ℕ

@@ -10,11 +10,13 @@ use regs::Reading;
 use regs_blend::read_bldalpha;
 use regs_blend::read_bldy;
 use rgb15::Rgb15;
+use rows::choose;
 use sfx_layers::FIRST_TARGET;
 use sfx_layers::LayerPair;
+use sfx_layers::MODE_ALPHA;
+use sfx_layers::MODE_WHITE;
 use sfx_layers::SECOND_TARGET;
 use sfx_layers::SEMI_OBJECT;
-use sfx_layers::choose;
 
 // The weights of a line's blends, as its reading counts them.
 pub struct Weights {
@@ -44,7 +46,7 @@ fn is_blended(mode: u16, permitted: bool, layers: LayerPair) -> bool
     let second = layers.bottom_tag / SECOND_TARGET % 2 == 1;
     let semi = layers.top_tag / SEMI_OBJECT % 2 == 1;
     let first = layers.top_tag / FIRST_TARGET % 2 == 1;
-    second & (semi | (permitted & first & (mode == 1)))
+    second & (semi | (permitted & first & (mode == MODE_ALPHA)))
 }
 
 // Whether a top that isn't blended is made white or black.
@@ -52,14 +54,14 @@ fn is_faded(mode: u16, permitted: bool, tag: u16) -> bool
     ensures { λ t. ⌜ t ≡ isFaded mode permitted tag ⌝ }
 {
     let first = tag / FIRST_TARGET % 2 == 1;
-    permitted & first & (2 <= mode)
+    permitted & first & (MODE_WHITE <= mode)
 }
 
 // The colour that such a top is blended with.
 fn fade_color(mode: u16) -> Rgb15
     ensures { λ c. ⌜ c .0 ≡ fadeColor mode ⌝ }
 {
-    Rgb15(choose(mode == 2, Rgb15::WHITE.0, Rgb15::BLACK.0))
+    Rgb15(choose(mode == MODE_WHITE, Rgb15::WHITE.0, Rgb15::BLACK.0))
 }
 
 // The weight of that colour; with 0 the top shows as it is.

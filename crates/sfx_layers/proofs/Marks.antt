@@ -13,25 +13,25 @@ use Rattle.regs_blend.specs.Layers.{backgroundLayer, targets}
 use Rattle.regs_blend.specs.Blend.{target1, target2}
 use Rattle.regs_blend.specs.declared.layer.RenderLayerKind.{RenderLayerKind}
 use Rattle.regs_blend.specs.declared.layer.RenderLayerKind.the-variants.{Objects}
-use Rattle.sfx_layers.specs.Code.{layerTag, placeTag, shows, goesOver, putBackground, backgroundPair, putObject, LineLayersOf, Unmarked}
+use Rattle.sfx_layers.specs.Code.{layerTag, semiBit, placeTag, isShown, goesOver, putBackground, backgroundPair, putObject, objectsBit, columnPair, LineLayersOf, Unmarked}
 use Rattle.sfx_layers.specs.declared.layer.LineLayers.{LineLayers}
-use Rattle.sfx_layers.proofs.Words.{asBit-bound}
+use Rattle.sfx_layers.proofs.Tags.{asBit-bound}
 
 -- ---- a line
 
-layerTag-plain : (first second priority : ℕ) (kind : RenderLayerKind) → bit 2 (layerTag first second kind priority) ≡ false
+layerTag-plain : (first second priority : ℕ) (kind : RenderLayerKind) → bit semiBit (layerTag first second kind priority) ≡ false
 unfolding layerTag
 layerTag-plain first second priority kind =
     let e : layerTag first second kind priority / 4 % 2 ≡ 0 =
     omega (arith, asBit-bound (targets first kind), asBit-bound (targets second kind)) in
     ap (λ n. eqb n 1) e
 
-placeTag-plain : (registers : List ℕ) (first second place : ℕ) → bit 2 (placeTag registers first second place) ≡ false
+placeTag-plain : (registers : List ℕ) (first second place : ℕ) → bit semiBit (placeTag registers first second place) ≡ false
 unfolding placeTag
 placeTag-plain registers first second place = go (ltb place 4)
   where
     go : (t : Bool)
-        → bit 2 (cond t (layerTag first second (backgroundLayer place) (priority (bgcnt registers place))) 0) ≡ false
+        → bit semiBit (cond t (layerTag first second (backgroundLayer place) (priority (bgcnt registers place))) 0) ≡ false
     go true = layerTag-plain first second (priority (bgcnt registers place)) (backgroundLayer place)
     go false = refl
 
@@ -39,11 +39,11 @@ module _ {palette registers at : List ℕ} {l : LineLayers} (l-is : LineLayersOf
   pub unmarked : Unmarked l
   unmarked =
       record {
-        place0-plain = ap (bit 2) (l-is .place0-is) ∙ placeTag-plain registers _ _ _;
-        place1-plain = ap (bit 2) (l-is .place1-is) ∙ placeTag-plain registers _ _ _;
-        place2-plain = ap (bit 2) (l-is .place2-is) ∙ placeTag-plain registers _ _ _;
-        place3-plain = ap (bit 2) (l-is .place3-is) ∙ placeTag-plain registers _ _ _;
-        backdrop-plain = ap (bit 2) (l-is .backdrop-tag-is) ∙ layerTag-plain _ _ _ _;
+        place0-plain = ap (bit semiBit) (l-is .place0-is) ∙ placeTag-plain registers _ _ _;
+        place1-plain = ap (bit semiBit) (l-is .place1-is) ∙ placeTag-plain registers _ _ _;
+        place2-plain = ap (bit semiBit) (l-is .place2-is) ∙ placeTag-plain registers _ _ _;
+        place3-plain = ap (bit semiBit) (l-is .place3-is) ∙ placeTag-plain registers _ _ _;
+        backdrop-plain = ap (bit semiBit) (l-is .backdrop-tag-is) ∙ layerTag-plain _ _ _ _;
       }
 
   -- The tag that all objects share has the two targets only.
@@ -56,23 +56,24 @@ module _ {palette registers at : List ℕ} {l : LineLayers} (l-is : LineLayersOf
 
 -- ---- a column
 
-cond-plain : (t : Bool) (a b : ℕ) → bit 2 a ≡ false → bit 2 b ≡ false → bit 2 (cond t a b) ≡ false
+cond-plain : (t : Bool) (a b : ℕ) → bit semiBit a ≡ false → bit semiBit b ≡ false → bit semiBit (cond t a b) ≡ false
 cond-plain true a b a-plain b-plain = a-plain
 cond-plain false a b a-plain b-plain = b-plain
 
 module _ {line : LineLayers} (unmarked-is : Unmarked line) (region a b c d : ℕ) where
-  backgroundPair-plain : bit 2 (backgroundPair line region a b c d .«top_tag») ≡ false
+  backgroundPair-plain : bit semiBit (backgroundPair line region a b c d .«top_tag») ≡ false
   unfolding backgroundPair putBackground
   backgroundPair-plain =
-      cond-plain (shows (bit 0 region) a) _ _ (unmarked-is .place0-plain)
-      (cond-plain (shows (bit 1 region) b) _ _ (unmarked-is .place1-plain)
-      (cond-plain (shows (bit 2 region) c) _ _ (unmarked-is .place2-plain)
-      (cond-plain (shows (bit 3 region) d) _ _ (unmarked-is .place3-plain)
+      cond-plain (isShown (bit 0 region) a) _ _ (unmarked-is .place0-plain)
+      (cond-plain (isShown (bit 1 region) b) _ _ (unmarked-is .place1-plain)
+      (cond-plain (isShown (bit 2 region) c) _ _ (unmarked-is .place2-plain)
+      (cond-plain (isShown (bit 3 region) d) _ _ (unmarked-is .place3-plain)
       (unmarked-is .backdrop-plain))))
 
   -- With an object whose tag has no mark either, the top of a column has none.
-  pub top-plain : (permitted : Bool) (tag object : ℕ) → bit 2 tag ≡ false
-      → bit 2 (putObject (backgroundPair line region a b c d) permitted tag object .«top_tag») ≡ false
-  unfolding putObject
-  top-plain permitted tag object plain =
-      cond-plain (goesOver permitted tag object (backgroundPair line region a b c d .«top_tag»)) _ _ plain backgroundPair-plain
+  pub columnPair-plain : (tag object : ℕ) → bit semiBit tag ≡ false
+      → bit semiBit (columnPair line region tag object a b c d .«top_tag») ≡ false
+  unfolding columnPair putObject
+  columnPair-plain tag object plain =
+      cond-plain (goesOver (bit objectsBit region) tag object (backgroundPair line region a b c d .«top_tag»)) _ _ plain
+      backgroundPair-plain

@@ -1,10 +1,14 @@
 // The layers of a column (gpu/layer.rs), each as two halfwords, which a loop over columns chooses between without branches.
 ghost use mathlib.Core.Path.{_≡_};
-ghost use mathlib.Core.Bool.{cond};
 ghost use Prim.Native.Nat.{_≤_};
 ghost use lib.ListN.{length};
 ghost use Rattle.memory.specs.Sizes.{paletteRamSize, registersSize};
-ghost use Rattle.sfx_layers.specs.Code.{asBit, layerTag, modeNumber, objectTag, placeTag, LineLayersOf, shows, putBackground, backgroundPair, putObject};
+ghost use Rattle.sfx_layers.specs.Code.{asBit, layerTag, modeNumber, objectTag, placeTag, LineLayersOf, isShown, putBackground, backgroundPair, putObject, columnPair};
+use crate::region::OBJECTS;
+use crate::region::PLACE0;
+use crate::region::PLACE1;
+use crate::region::PLACE2;
+use crate::region::PLACE3;
 use memory::read_backdrop;
 use obj_entries::Entry;
 use regs::iodev::read_bgcnt;
@@ -13,10 +17,10 @@ use regs_blend::BlendMode;
 use regs_blend::RenderLayerKind;
 use regs_blend::read_bldcnt;
 use rgb15::Rgb15;
+use rows::choose;
 use sfx_sorting::NO_BACKGROUND;
 
-// The parts of a layer's tag: bit 0 is a first target, bit 1 a second target, bit 2 a semi-transparent object, and the
-// priority stands from bit 3 on.
+// The parts of a layer's tag: whether it is a first target, a second target, a semi-transparent object; above, the priority.
 pub const FIRST_TARGET: u16 = 0x1;
 
 pub const SECOND_TARGET: u16 = 0x2;
@@ -24,6 +28,15 @@ pub const SECOND_TARGET: u16 = 0x2;
 pub const SEMI_OBJECT: u16 = 0x4;
 
 const PRIORITY: u16 = 0x8;
+
+// The numbers of a control's effects.
+const MODE_NONE: u16 = 0;
+
+pub const MODE_ALPHA: u16 = 1;
+
+pub const MODE_WHITE: u16 = 2;
+
+const MODE_BLACK: u16 = 3;
 
 // The top and the bottom layer of a column, the colour and the tag of each. No layer is passed on or chosen whole: the
 // compiler would take its two halfwords for one word, of which a vector holds half as many.
@@ -54,14 +67,6 @@ pub(crate) fn bit_of(set: bool) -> u16
     if set { 1 } else { 0 }
 }
 
-// The first number where the test holds, else the second. Per column every choice is made by this function, of numbers that
-// are there already: so a loop over columns has no other branches, and runs on several columns at once.
-pub fn choose(test: bool, then: u16, other: u16) -> u16
-    ensures { λ r. ⌜ r ≡ cond test then other ⌝ }
-{
-    if test { then } else { other }
-}
-
 // All of a layer but its colour.
 fn layer_tag(control: BlendControl, kind: RenderLayerKind, priority: u16) -> u16
     requires { ⌜ priority ≤ 4 ⌝ }
@@ -69,7 +74,7 @@ fn layer_tag(control: BlendControl, kind: RenderLayerKind, priority: u16) -> u16
 {
     let first = bit_of(control.target1.contains_render_layer(kind));
     let second = bit_of(control.target2.contains_render_layer(kind));
-    first + 2 * second + 8 * priority
+    FIRST_TARGET * first + SECOND_TARGET * second + PRIORITY * priority
 }
 
 // The number of a control's effect.
@@ -77,10 +82,10 @@ fn mode_number(mode: BlendMode) -> u16
     ensures { λ r. ⌜ r ≡ modeNumber mode ⌝ }
 {
     match mode {
-        BlendMode::BldNone => 0,
-        BlendMode::BldAlpha => 1,
-        BlendMode::BldWhite => 2,
-        BlendMode::BldBlack => 3,
+        BlendMode::BldNone => MODE_NONE,
+        BlendMode::BldAlpha => MODE_ALPHA,
+        BlendMode::BldWhite => MODE_WHITE,
+        BlendMode::BldBlack => MODE_BLACK,
     }
 }
 
@@ -121,21 +126,21 @@ pub fn object_tag(tag: u16, e: Entry) -> u16
     requires { ⌜ tag ≤ 3 ⌝ }
     ensures { λ r. ⌜ r ≡ objectTag tag e ⌝ }
 {
-    tag + 4 * (e.marks % 2) as u16 + 8 * (e.priority as u16)
+    tag + SEMI_OBJECT * (e.marks % 2) as u16 + PRIORITY * (e.priority as u16)
 }
 
 // Whether a pixel is permitted and opaque.
-fn shows(permitted: bool, color: u16) -> bool
-    ensures { λ t. ⌜ t ≡ shows permitted color ⌝ }
+fn is_shown(permitted: bool, color: u16) -> bool
+    ensures { λ t. ⌜ t ≡ isShown permitted color ⌝ }
 {
     permitted & !Rgb15(color).is_transparent()
 }
 
-// A background's pixel over what is behind it, if it shows: the top that it covers becomes the bottom.
+// A background's pixel over what is behind it, if it is shown: the top that it covers becomes the bottom.
 fn put_background(behind: LayerPair, permitted: bool, tag: u16, color: u16) -> LayerPair
     ensures { λ r. ⌜ r ≡ putBackground behind permitted tag color ⌝ }
 {
-    let over = shows(permitted, color);
+    let over = is_shown(permitted, color);
     LayerPair {
         top: choose(over, color, behind.top),
         top_tag: choose(over, tag, behind.top_tag),
@@ -146,7 +151,7 @@ fn put_background(behind: LayerPair, permitted: bool, tag: u16, color: u16) -> L
 
 // The layers of a column's backgrounds, put from the last place to the first: the first two that count, the backdrop
 // filling in.
-pub fn background_pair(
+fn background_pair(
     line: LineLayers,
     region: u16,
     color0: Rgb15,
@@ -156,25 +161,25 @@ pub fn background_pair(
 ) -> LayerPair
     ensures { λ r. ⌜ r ≡ backgroundPair line region (color0 .0) (color1 .0) (color2 .0) (color3 .0) ⌝ }
 {
-    let fourth = LayerPair {
+    let back = LayerPair {
         top: line.backdrop,
         top_tag: line.backdrop_tag,
         bottom: line.backdrop,
         bottom_tag: line.backdrop_tag,
     };
-    let third = put_background(fourth, region / 0x8 % 2 == 1, line.place3, color3.0);
-    let second = put_background(third, region / 0x4 % 2 == 1, line.place2, color2.0);
-    let first = put_background(second, region / 0x2 % 2 == 1, line.place1, color1.0);
-    put_background(first, region / 0x1 % 2 == 1, line.place0, color0.0)
+    let fourth = put_background(back, region / PLACE3 % 2 == 1, line.place3, color3.0);
+    let third = put_background(fourth, region / PLACE2 % 2 == 1, line.place2, color2.0);
+    let second = put_background(third, region / PLACE1 % 2 == 1, line.place1, color1.0);
+    put_background(second, region / PLACE0 % 2 == 1, line.place0, color0.0)
 }
 
-// An object's pixel, if it shows: on top if its priority is at most the top's, else second if at most the bottom's.
-pub fn put_object(behind: LayerPair, permitted: bool, tag: u16, color: u16) -> LayerPair
+// An object's pixel, if it is shown: on top if its priority is at most the top's, else second if at most the bottom's.
+fn put_object(behind: LayerPair, permitted: bool, tag: u16, color: u16) -> LayerPair
     ensures { λ r. ⌜ r ≡ putObject behind permitted tag color ⌝ }
 {
-    let counts = shows(permitted, color);
-    let first = counts & (tag / PRIORITY <= behind.top_tag / PRIORITY);
-    let second = counts & (tag / PRIORITY <= behind.bottom_tag / PRIORITY);
+    let shown = is_shown(permitted, color);
+    let first = shown & (tag / PRIORITY <= behind.top_tag / PRIORITY);
+    let second = shown & (tag / PRIORITY <= behind.bottom_tag / PRIORITY);
     LayerPair {
         top: choose(first, color, behind.top),
         top_tag: choose(first, tag, behind.top_tag),
@@ -185,4 +190,21 @@ pub fn put_object(behind: LayerPair, permitted: bool, tag: u16, color: u16) -> L
             choose(second, tag, behind.bottom_tag),
         ),
     }
+}
+
+// The layers of a column, by what its region permits, its object's tag and colour and the colour of each place.
+pub fn column_pair(
+    line: LineLayers,
+    region: u16,
+    tag: u16,
+    object: u16,
+    color0: Rgb15,
+    color1: Rgb15,
+    color2: Rgb15,
+    color3: Rgb15,
+) -> LayerPair
+    ensures { λ r. ⌜ r ≡ columnPair line region tag object (color0 .0) (color1 .0) (color2 .0) (color3 .0) ⌝ }
+{
+    let backgrounds = background_pair(line, region, color0, color1, color2, color3);
+    put_object(backgrounds, region / OBJECTS % 2 == 1, tag, object)
 }

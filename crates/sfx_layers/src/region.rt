@@ -1,5 +1,5 @@
 // What the regions of a line permit (gpu/sfx.rs, `filter_window_backgrounds` and the flags of `finalize_pixel`): a word for
-// each region, with bit j for the background of place j, bit 4 for objects and bit 5 for effects.
+// each region.
 ghost use mathlib.Core.Path.{_≡_};
 ghost use Prim.Native.Nat.{_≤_};
 ghost use lib.ListN.{length};
@@ -9,6 +9,7 @@ ghost use Rattle.obj_entries.specs.Entry.{entriesSize};
 ghost use Rattle.sfx_regions.specs.Region.{permitted};
 ghost use Rattle.sfx_layers.specs.Code.{asBit, permitsPlace, regionWord, columnRegion};
 use crate::layer::bit_of;
+use memory::DISPLAY_WIDTH;
 use regs::Reading;
 use regs::iodev::read_dispcnt;
 use regs_window::WindowFlags;
@@ -17,6 +18,19 @@ use sfx_regions::WindowType;
 use sfx_regions::region_row;
 use sfx_regions::window_flags;
 use sfx_sorting::NO_BACKGROUND;
+
+// The parts of a region's word: the background of each place, objects, effects.
+pub(crate) const PLACE0: u16 = 0x1;
+
+pub(crate) const PLACE1: u16 = 0x2;
+
+pub(crate) const PLACE2: u16 = 0x4;
+
+pub(crate) const PLACE3: u16 = 0x8;
+
+pub(crate) const OBJECTS: u16 = 0x10;
+
+pub const EFFECTS: u16 = 0x20;
 
 // 1 if flags permit the background of a place and it has one, else 0.
 fn place_bit(flags: WindowFlags, place: usize) -> u16
@@ -29,16 +43,16 @@ fn place_bit(flags: WindowFlags, place: usize) -> u16
     }
 }
 
-// What a region permits, as a word: the background of each place, objects, effects.
+// What a region permits, as a word.
 fn region_word(flags: WindowFlags, objects: bool, places: [usize; 4]) -> u16
     ensures { λ r. ⌜ r ≡ regionWord objects places (flags .0) ⌝ }
 {
-    place_bit(flags, places[0])
-        + 0x2 * place_bit(flags, places[1])
-        + 0x4 * place_bit(flags, places[2])
-        + 0x8 * place_bit(flags, places[3])
-        + 0x10 * bit_of(flags.obj_enabled() & objects)
-        + 0x20 * bit_of(flags.sfx_enabled())
+    PLACE0 * place_bit(flags, places[0])
+        + PLACE1 * place_bit(flags, places[1])
+        + PLACE2 * place_bit(flags, places[2])
+        + PLACE3 * place_bit(flags, places[3])
+        + OBJECTS * bit_of(flags.obj_enabled() & objects)
+        + EFFECTS * bit_of(flags.sfx_enabled())
 }
 
 // The word of a region.
@@ -56,7 +70,7 @@ pub fn line_regions(
     reading: Reading,
     line: usize,
     places: [usize; 4],
-) -> [u16; 240]
+) -> [u16; DISPLAY_WIDTH]
     requires { ⌜ (length (now entries) ≡ entriesSize) × (length (now registers) ≡ registersSize) ⌝ }
     ensures { λ r. ⌜ r ≡ tab (columnRegion reading (now (registers .entry)) (now (entries .entry)) places line) 240 ⌝ }
 {

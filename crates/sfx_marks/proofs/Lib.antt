@@ -2,5 +2,6 @@
 -- as Rattle.sfx_marks.proofs.NAME. No contract cites them. Assumes nothing.
 --
 -- A law's name is what is read, what was done, and the case, by the suffixes of `rows`.
+pub mod Bits
 pub mod Marks
 pub mod Paints

@@ -1,23 +1,22 @@
 -- Laws of a row with columns given to another row, so that they have its words. No contract cites this file. Assumes nothing.
-use Prim.Native.Nat.{ℕ, suc, _+_, _-_, _*_, _/_, _%_, _^_, _≤_, _<_}
+use Prim.Native.Nat.{ℕ, _+_, _-_, _*_, _/_, _%_, _^_, _≤_, _<_}
 use native.Mathlib.Decide.{decLt}
 use native.Mathlib.Omega.{arith}
 use mathlib.Core.Path.{_≡_, refl, sym, ap, ap₂, _∙_}
 use mathlib.Core.Bool.{Bool, true, false, cond, _&&_, _||_, and-false, or-false}
 use mathlib.Core.List.{List}
-use lib.Dec.{leb, ltb, eqb}
+use lib.Dec.{eqb}
 use lib.ListN.{length, getD, set}
-use lib.Pow.{shr-shr, field, mod-mod-pow}
-use borrow.Author.Tests.{lt-ltb, le-leb}
+use lib.Pow.{shr-shr}
+use borrow.Author.Tests.{lt-ltb, le-ltb, lt-leb, le-leb}
 use Rattle.rows.specs.Below.{between}
 use Rattle.rows.specs.Cells.{only}
-use Rattle.rows.specs.Marks.{marked}
 use Rattle.rows.specs.Tab.{tab, mapTab}
 use Rattle.rows.proofs.Below.{between-inside, between-before, between-past}
-use Rattle.rows.proofs.Bits.{bitAt, bitAt-none}
 use Rattle.rows.proofs.Tab.{length-tab, getD-tab, getD-of-tab, tab-cong, tab-ext}
 use Rattle.rows.proofs.Tabbed.{mapped-from, mapped-inside, mapped-to}
-use Rattle.sfx_marks.specs.Code.{markedIn, givenRow}
+use Rattle.sfx_marks.specs.Code.{isSet, marked, markedIn, givenRow}
+use Rattle.sfx_marks.proofs.Bits.{isSet-none, isSet-shift, isSet-low}
 use Rattle.sfx_marks.proofs.Marks.{marked-word}
 
 -- ---- a row with columns of another
@@ -61,28 +60,17 @@ tab-given test f g d e =
 
 -- ---- a part of the columns after another
 
--- Only the edge that k may lie past matters.
-between-right : (a b c k : ℕ) → k < b → b ≤ c → between a b k ≡ between a c k
-unfolding between
-between-right a b c k h u = ap (λ (s : Bool). leb a k && s) (lt-ltb k b h ∙ sym (lt-ltb k c (omega arith)))
-
-between-left : (a b c k : ℕ) → a ≤ b → b ≤ k → between b c k ≡ between a c k
-unfolding between
-between-left a b c k h u = ap (λ (s : Bool). s && ltb k c) (le-leb b k u ∙ sym (le-leb a k (omega arith)))
-
 module _ (t u : ℕ → Bool) (a b c : ℕ) (near : a ≤ b) (far : b ≤ c) (same : (k : ℕ) → b ≤ k → k < c → u k ≡ t k) where
+  -- What lies in the second part or in the first lies in both together.
   between-after : (k : ℕ) → Dec (k < b) → Dec (k < c)
       → ((between b c k && u k) || (between a b k && t k)) ≡ (between a c k && t k)
-  between-after k (yes h) l =
-      ap₂ (λ (x y : Bool). (x && u k) || (y && t k)) (between-before b c k h) (between-right a b c k h far)
+  unfolding between
+  between-after k (yes h) l = rw (lt-leb b k h, lt-ltb k b h, lt-ltb k c (omega arith))
   between-after k (no h) (yes l) =
       let past : b ≤ k = omega arith in
-      ap₂ (λ (x y : Bool). x || (y && t k))
-      (ap₂ _&&_ (between-left a b c k near past) (same k past l))
-      (between-past a b k past)
-      ∙ or-false (between a c k && t k)
+      rw (le-leb b k past, le-leb a k (omega arith), le-ltb k b past, lt-ltb k c l, same k past l) (or-false (t k))
   between-after k (no h) (no l) =
-      rw (between-past b c k (omega arith), between-past a b k (omega arith), between-past a c k (omega arith)) refl
+      rw (le-leb b k (omega arith), le-leb a k (omega arith), le-ltb k c (omega arith), le-ltb k b (omega arith))
 
   pub given-more : (other row₀ : List ℕ) {row row' : List ℕ}
       → row ≡ givenRow (λ k. between a b k && t k) other row₀
@@ -100,32 +88,24 @@ module _ (t u : ℕ → Bool) (a b c : ℕ) (near : a ≤ b) (far : b ≤ c) (sa
 pub given-one : (other row : List ℕ) (left x : ℕ) {word a : ℕ} → length row ≡ 240 → x < 240 → word ≡ getD other x 0
     → a ≡ cond (eqb (left % 2) 1) word (getD row x 0)
     → set row x a ≡ givenRow (markedIn (left % 2) x (x + 1)) other row
-unfolding givenRow mapTab
+unfolding givenRow mapTab isSet
 given-one other row left x size h word-is e =
     let none : x - x ≡ 0 = omega arith in
     let lowest : left % 2 / 2 ^ (x - x) % 2 ≡ left % 2 = rw none (omega arith) in
     mapped-to
     (mapped-inside
-    (mapped-from {f = only (λ k. eqb (left % 2 / 2 ^ (k - x) % 2) 1) (λ k _. getD other k 0)} {d = 0} {l = row} size (omega arith))
+    (mapped-from {f = only (λ k. isSet (left % 2) (k - x)) (λ k _. getD other k 0)} {d = 0} {l = row} size (omega arith))
     (omega arith) (omega arith) (rw (lowest, sym word-is) e))
     (omega arith)
     ∙ tab-cong _ _ 240 (λ k lt. cond-and (between x (x + 1) k) _ _ _)
 
 -- A word without marks marks none.
 pub markedIn-none : (first end k : ℕ) → markedIn 0 first end k ≡ false
-unfolding bitAt
-markedIn-none first end k =
-    ap (λ (b : ℕ). between first end k && eqb b 1) (bitAt-none (k - first)) ∙ and-false (between first end k)
+markedIn-none first end k = rw (isSet-none (k - first)) (and-false (between first end k))
 
 between-none : (a k : ℕ) → Dec (k < a) → between a a k ≡ false
 between-none a k (yes h) = between-before a a k h
 between-none a k (no h) = between-past a a k (omega arith)
-
--- A bit of the n lowest.
-bit-mod : (n word j : ℕ) → j < n → word % 2 ^ n / 2 ^ j % 2 ≡ word / 2 ^ j % 2
-bit-mod n word j h =
-    let whole : n - suc j + 1 + j ≡ n = omega arith in
-    ap (λ (m : ℕ). m % 2) (rw whole at (field word (n - suc j + 1) j)) ∙ mod-mod-pow (word / 2 ^ j) (n - suc j) 1
 
 -- Of the columns from first on and before end those before x are passed, and left has the marks of the others.
 pub record Painted (other : List ℕ) (marks first end : ℕ) (row₀ row : List ℕ) (left x : ℕ) : Type 0 where
@@ -160,14 +140,14 @@ module _ (other : List ℕ) (marks first end : ℕ) where
         given = given-more _ _ first x (x + n) from (omega arith) same other row₀ (p .given) e;
       }
     where
-      same : (k : ℕ) → x ≤ k → k < x + n → eqb (left % 2 ^ n / 2 ^ (k - x) % 2) 1 ≡ eqb (marks / 2 ^ (k - first) % 2) 1
+      same : (k : ℕ) → x ≤ k → k < x + n → isSet (left % 2 ^ n) (k - x) ≡ isSet marks (k - first)
       same k near far =
           let from = p .from in
           let place : x - first + (k - x) ≡ k - first = omega arith in
-          ap (λ (m : ℕ). eqb m 1)
-          (bit-mod n left (k - x) (omega arith)
-          ∙ ap (λ (w : ℕ). w / 2 ^ (k - x) % 2) (p .left-is)
-          ∙ ap (λ (w : ℕ). w % 2) (shr-shr marks (x - first) (k - x) ∙ ap (λ (m : ℕ). marks / 2 ^ m) place))
+          isSet-low n left (k - x) (omega arith)
+          ∙ ap (λ (w : ℕ). isSet w (k - x)) (p .left-is)
+          ∙ isSet-shift marks (x - first) (k - x)
+          ∙ ap (isSet marks) place
 
   pub painted-all : (row₀ : List ℕ) {row : List ℕ} {left x : ℕ} → Painted other marks first end row₀ row left x → end ≤ x
       → row ≡ givenRow (markedIn marks first end) other row₀
@@ -189,10 +169,9 @@ module _ (other ws row₀ : List ℕ) where
   pub givenTo-more : (i end : ℕ) {row row' : List ℕ} → 64 * i ≤ end → end ≤ 64 * i + 64 → GivenTo (64 * i) row
       → row' ≡ givenRow (markedIn (getD ws i 0) (64 * i) end) other row
       → GivenTo end row'
-  unfolding bitAt
   givenTo-more i end h u = given-more (marked ws) _ 0 (64 * i) end (omega arith) h same other row₀
     where
-      same : (k : ℕ) → 64 * i ≤ k → k < end → eqb (getD ws i 0 / 2 ^ (k - 64 * i) % 2) 1 ≡ marked ws k
+      same : (k : ℕ) → 64 * i ≤ k → k < end → isSet (getD ws i 0) (k - 64 * i) ≡ marked ws k
       same k near far =
           let place : 64 * i + (k - 64 * i) ≡ k = omega arith in
           sym (marked-word ws i (k - 64 * i) (omega arith)) ∙ ap (marked ws) place

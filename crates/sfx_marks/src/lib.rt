@@ -1,11 +1,13 @@
 // Columns of a line as marks, 64 in a word, and rows that are painted by them (gpu/sfx.rs, `occupied` of `finalize_scanline`).
 ghost use mathlib.Core.Path.{_≡_};
-ghost use mathlib.Core.Bool.{cond, not, _&&_, _||_};
-ghost use Prim.Native.Nat.{_+_, _-_, _%_, _^_, _≤_, min};
+ghost use mathlib.Core.Bool.{not, _&&_, _||_};
+ghost use Prim.Native.Nat.{_+_, _-_, _^_, _≤_, min};
+ghost use lib.Count.{ones};
 ghost use lib.ListN.{length, getD};
-ghost use Rattle.rows.specs.Marks.{marked, Clean};
 ghost use Rattle.rows.specs.Tab.{tab};
-ghost use Rattle.sfx_marks.specs.Code.{holds, Spanned, MarksOf, markedIn, givenRow};
+ghost use Rattle.sfx_marks.specs.Code.{marked, countMarks, Clean, holds, Spanned, MarksOf, Eights, markedIn, givenRow};
+use memory::DISPLAY_WIDTH;
+use rows::choose;
 
 // The columns from left on and before right.
 pub struct Columns {
@@ -78,15 +80,23 @@ pub fn joined(first: [u64; 4], second: [u64; 4]) -> [u64; 4]
     ]
 }
 
-// The first number where the test holds, else the second: a choice of numbers that are there already, so without a branch.
-fn choose(test: bool, then: u16, other: u16) -> u16
-    ensures { λ r. ⌜ r ≡ cond test then other ⌝ }
+// How many marks a word has.
+fn ones_of(word: u64) -> u32
+    ensures { λ r. ⌜ (r ≡ ones word) × (r ≤ 64) ⌝ }
 {
-    if test { then } else { other }
+    u64::count_ones(word)
+}
+
+// How many of the 240 columns are marked.
+pub fn count_marks(marks: [u64; 4]) -> u32
+    requires { ⌜ Clean marks ⌝ }
+    ensures { λ r. ⌜ r ≡ countMarks marks ⌝ }
+{
+    ones_of(marks[0]) + ones_of(marks[1]) + ones_of(marks[2]) + ones_of(marks[3])
 }
 
 // The eight words of a row from column i on.
-fn eight_of(row: &[u16; 240], i: usize) -> [u16; 8]
+fn eight_of(row: &[u16; DISPLAY_WIDTH], i: usize) -> [u16; 8]
     requires { ⌜ i + 8 ≤ 240 ⌝ }
     ensures { λ r. ⌜ r ≡ tab (λ j. getD (now (row .entry)) (i + j) 0) 8 ⌝ }
 {
@@ -101,7 +111,7 @@ fn eight_of(row: &[u16; 240], i: usize) -> [u16; 8]
 
 // The eight columns from i on, each given to the other row where its mark is set. The other row is read before the first store, for
 // the compiler doesn't know that the two rows are apart: so the eight columns run at once.
-fn paint_eight(row: &mut [u16; 240], other: &[u16; 240], marks: u16, i: usize)
+fn paint_eight(row: &mut [u16; DISPLAY_WIDTH], other: &[u16; DISPLAY_WIDTH], marks: u16, i: usize)
     requires { ⌜ (length (now row) ≡ 240) × (i + 8 ≤ 240) ⌝ }
     ensures { λ _. ⌜ now (row .exit) ≡ givenRow (markedIn marks i (i + 8)) (now (other .entry)) (now (row .entry)) ⌝ }
 {
@@ -117,8 +127,14 @@ fn paint_eight(row: &mut [u16; 240], other: &[u16; 240], marks: u16, i: usize)
 }
 
 // The columns of one word, from first on and before end, each given to the other row where its mark is set.
-fn paint_word(row: &mut [u16; 240], marks: u64, other: &[u16; 240], first: usize, end: usize)
-    requires { ⌜ (length (now row) ≡ 240) × (first % 8 ≡ 0) × (end % 8 ≡ 0) × (first ≤ end) × (end ≤ 240) ⌝ }
+fn paint_word(
+    row: &mut [u16; DISPLAY_WIDTH],
+    marks: u64,
+    other: &[u16; DISPLAY_WIDTH],
+    first: usize,
+    end: usize,
+)
+    requires { ⌜ (length (now row) ≡ 240) × Eights first end ⌝ }
     ensures { λ _. ⌜ now (row .exit) ≡ givenRow (markedIn marks first end) (now (other .entry)) (now (row .entry)) ⌝ }
 {
     if marks == 0 {
@@ -134,12 +150,12 @@ fn paint_word(row: &mut [u16; 240], marks: u64, other: &[u16; 240], first: usize
 }
 
 // The columns that are marked, given to the other row.
-pub fn paint(row: &mut [u16; 240], marks: [u64; 4], other: &[u16; 240])
+pub fn paint(row: &mut [u16; DISPLAY_WIDTH], marks: [u64; 4], other: &[u16; DISPLAY_WIDTH])
     requires { ⌜ length (now row) ≡ 240 ⌝ }
     ensures { λ _. ⌜ now (row .exit) ≡ givenRow (marked marks) (now (other .entry)) (now (row .entry)) ⌝ }
 {
     paint_word(row, marks[0], other, 0, 64);
     paint_word(row, marks[1], other, 64, 128);
     paint_word(row, marks[2], other, 128, 192);
-    paint_word(row, marks[3], other, 192, 240);
+    paint_word(row, marks[3], other, 192, DISPLAY_WIDTH);
 }

@@ -1,19 +1,18 @@
 -- Laws of a line's row of words. No contract cites this file. Assumes nothing.
-use Prim.Native.Nat.{ℕ, _<_}
-use native.Mathlib.Omega.{arith}
+use Prim.Native.Nat.{ℕ}
 use mathlib.Core.Path.{_≡_, refl, sym, _∙_}
 use mathlib.Core.Bool.{Bool, true, false, cond, _&&_}
 use mathlib.Core.List.{List}
-use lib.ListN.{getD, replicate}
+use lib.ListN.{replicate}
 use Rattle.rows.specs.Cells.{cellAt}
-use Rattle.rows.proofs.Tab.{getD-of-tab, tab-cong, tab-replicate}
+use Rattle.rows.proofs.Tab.{tab-cong, tab-replicate}
 use Rattle.regs.specs.Registers.{dispcnt}
 use Rattle.regs.specs.Display.{enableObjWindow, isUsingWindows, DisplayControlOf}
 use Rattle.regs.specs.declared.DisplayControl.{DisplayControl}
 use Rattle.regs.specs.declared.reading.Reading.{Reading}
 use Rattle.obj_entries.specs.Entry.{entryCells, windowMark}
-use Rattle.sfx_regions.specs.Region.{region, permitted, usesWindows, inWindow0, inWindow1}
-use Rattle.sfx_regions.specs.Code.{wordIn, regionAt, regionRow, ColumnsOf, walkedWord, walkedRow}
+use Rattle.sfx_regions.specs.Region.{region, usesWindows, inWindow0, inWindow1}
+use Rattle.sfx_regions.specs.Code.{wordIn, regionRow, ColumnsOf, walkedWord, walkedRow}
 use Rattle.sfx_marks.specs.declared.Columns.{Columns}
 use Rattle.sfx_regions.specs.declared.RegionWords.{RegionWords}
 use Rattle.sfx_regions.specs.declared.WindowType.{WindowType}
@@ -46,21 +45,7 @@ module _ (f : WindowType → ℕ) (words : RegionWords) (win0-is : words .win0 �
   wordIn-each WinOut = winout-is
   wordIn-each WinNone = winnone-is
 
--- What a region permits is six bits.
-pub permitted-bound : (registers : List ℕ) (kind : WindowType) → permitted registers kind < 64
-unfolding permitted
-permitted-bound registers Win0 = omega arith
-permitted-bound registers Win1 = omega arith
-permitted-bound registers WinObj = omega arith
-permitted-bound registers WinOut = omega arith
-permitted-bound registers WinNone = omega arith
-
 module _ (reading : Reading) (registers entries : List ℕ) (line : ℕ) (words : RegionWords) where
-  -- The word of a column, from the row that a call gave.
-  pub getD-regionRow : {row : List ℕ} → row ≡ regionRow reading registers entries line words → (k : ℕ) → k < 240
-      → getD row k 0 ≡ wordIn words (regionAt reading registers entries k line)
-  getD-regionRow e k lt = getD-of-tab _ 240 k 0 e lt
-
   -- With no window on.
   pub regionRow-none : usesWindows registers ≡ false
       → replicate 240 (words .winnone) ≡ regionRow reading registers entries line words

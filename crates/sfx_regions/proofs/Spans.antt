@@ -7,7 +7,7 @@ use lib.Dec.{leb, ltb}
 use borrow.Author.Tests.{ltb-true, ltb-false}
 use Rattle.rows.specs.Below.{between}
 use Rattle.rows.proofs.Below.{between-past}
-use Rattle.regs_window.specs.Windows.{left, right, top, bottom, WindowOf, rightEdge, inColumns, inRows}
+use Rattle.regs_window.specs.Windows.{windowLeft, windowRight, windowTop, windowBottom, WindowOf, rightEdge, inColumns, inRows}
 use Rattle.regs_window.specs.declared.Window.{Window}
 use Rattle.regs_window.proofs.Laws.{inside-none}
 use Rattle.sfx_regions.specs.Code.{ColumnsOf}
@@ -58,6 +58,6 @@ module _ (line : ℕ) {on enable : Bool} {h v h' v' flags flags' : ℕ} {rows co
     (rows-are : WindowOf h v flags rows) (columns-are : WindowOf h' v' flags' columns) where
   pub columnsOf-window : {c : Columns}
       → ColumnsOf (λ k. (on && inRows (rows .top) (rows .bottom) line) && inColumns (columns .left) (columns .right) k) c
-      → ColumnsOf (λ k. (enable && inRows (top v) (bottom v) line) && inColumns (left h') (right h') k) c
+      → ColumnsOf (λ k. (enable && inRows (windowTop v) (windowBottom v) line) && inColumns (windowLeft h') (windowRight h') k) c
   columnsOf-window p =
       columnsOf-cong p (λ k. rw (on-is, rows-are .top-is, rows-are .bottom-is, columns-are .left-is, columns-are .right-is))

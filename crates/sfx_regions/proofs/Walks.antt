@@ -6,13 +6,11 @@ use mathlib.Core.Bool.{Bool, true, false, cond, not, _&&_, _||_}
 use mathlib.Core.List.{List}
 use lib.ListN.{replicate}
 use Rattle.rows.specs.Cells.{cellAt}
-use Rattle.rows.specs.Marks.{marked, countMarks}
 use Rattle.rows.specs.Tab.{tab}
-use Rattle.rows.proofs.Below.{between-inside}
-use Rattle.rows.proofs.Marks.{countMarks-full}
+use Rattle.rows.proofs.Below.{between-inside, countBelow-full}
 use Rattle.rows.proofs.Tab.{tab-cong, tab-replicate}
 use Rattle.obj_entries.specs.Entry.{entryCells, windowMark}
-use Rattle.sfx_marks.specs.Code.{holds, MarksOf, givenRow}
+use Rattle.sfx_marks.specs.Code.{marked, countMarks, holds, MarksOf, givenRow}
 use Rattle.sfx_regions.specs.Code.{walkedWord, walkedRow}
 use Rattle.sfx_marks.specs.declared.Columns.{Columns}
 use Rattle.sfx_regions.specs.declared.RegionWords.{RegionWords}
@@ -38,7 +36,7 @@ module _ (entries : List ℕ) (objWindow : Bool) (win0 win1 : Columns) (words : 
   unfolding walkedWord
   walked-first full =
       tab-replicate (words .win0) 240
-      ∙ tab-cong _ _ 240 (λ k lt. rw (sym (first-is .same k lt) ∙ countMarks-full first full k lt))
+      ∙ tab-cong _ _ 240 (λ k lt. rw (sym (first-is .same k lt) ∙ countBelow-full (marked first) 240 full k lt))
 
   module _ {held second occupied row : List ℕ} (held-is : MarksOf (holds win1) held)
       (second-is : MarksOf (λ k. marked held k && not (marked first k)) second)
@@ -61,7 +59,7 @@ module _ (entries : List ℕ) (objWindow : Bool) (win0 win1 : Columns) (words : 
         row-second
         ∙ tab-cong _ _ 240 (λ k lt.
         rw (marked-second k lt)
-        (cond-second (holds win0 k) (holds win1 k) _ _ _ (sym (marked-occupied k lt) ∙ countMarks-full occupied full k lt)))
+        (cond-second (holds win0 k) (holds win1 k) _ _ _ (sym (marked-occupied k lt) ∙ countBelow-full (marked occupied) 240 full k lt)))
 
     -- Some columns are left.
     pub walked-all : {line left rest all : List ℕ}

@@ -3,11 +3,12 @@
 -- No exported contract reaches this file. Assumes nothing.
 use Prim.Native.Nat.{ℕ}
 use mathlib.Core.List.{List}
+use lib.ListN.{length}
 use Rattle.rows.specs.Cells.{cellAt}
 use Rattle.rows.specs.Tab.{tab}
 use Rattle.memory.specs.Sizes.{displayWidth}
 use Rattle.regs.specs.declared.reading.Reading.{Reading}
-use Rattle.obj_entries.specs.Entry.{entryCells, windowMark}
+use Rattle.obj_entries.specs.Entry.{entriesSize, entryCells, windowMark}
 use Rattle.sfx_regions.specs.Region.{region}
 use Rattle.sfx_regions.specs.declared.RegionWords.{RegionWords}
 use Rattle.sfx_regions.specs.declared.WindowType.{WindowType}
@@ -39,6 +40,12 @@ regionRow reading registers entries line words =
 pub record ColumnsOf (test : ℕ → Bool) (c : Columns) : Type 0 where
   pub spanned : Spanned c
   pub same : (k : ℕ) → holds c k ≡ test k
+
+-- What the walk over windows needs: entries for its columns, and both windows' columns on the line.
+pub record Walkable (entries : List ℕ) (win0 win1 : Columns) : Type 0 where
+  pub entries-size : length entries ≡ entriesSize
+  pub win0-spanned : Spanned win0
+  pub win1-spanned : Spanned win1
 
 -- A column's word with windows on: of the first of window 0's columns, window 1's, and the object window that hold it.
 unfoldable pub walkedWord : List ℕ → Bool → Columns → Columns → RegionWords → ℕ → ℕ

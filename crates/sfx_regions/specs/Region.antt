@@ -5,7 +5,7 @@ use mathlib.Core.Bool.{Bool, cond, not, _&&_}
 use mathlib.Core.List.{List}
 use Rattle.regs.specs.Registers.{dispcnt, win0h, win0v, win1h, win1v, win0Flags, win1Flags, winobjFlags, winoutFlags}
 use Rattle.regs.specs.Display.{enableWindow0, enableWindow1, enableObjWindow, isUsingWindows}
-use Rattle.regs_window.specs.Windows.{left, right, top, bottom, inColumns, inRows, everything}
+use Rattle.regs_window.specs.Windows.{windowLeft, windowRight, windowTop, windowBottom, inColumns, inRows, everything}
 use Rattle.regs.specs.declared.reading.Reading.{Reading}
 use Rattle.regs.specs.declared.reading.Reading.the-variants.{R, H}
 use Rattle.sfx_regions.specs.declared.WindowType.{WindowType}
@@ -22,8 +22,8 @@ usesWindows registers =
 -- Whether window 0 is on and holds the column and the line.
 unfoldable pub inWindow0 : List ℕ → ℕ → ℕ → Bool
 inWindow0 registers column line =
-    (enableWindow0 (dispcnt registers) && inRows (top (win0v registers)) (bottom (win0v registers)) line)
-    && inColumns (left (win0h registers)) (right (win0h registers)) column
+    (enableWindow0 (dispcnt registers) && inRows (windowTop (win0v registers)) (windowBottom (win0v registers)) line)
+    && inColumns (windowLeft (win0h registers)) (windowRight (win0h registers)) column
 
 -- Window 1's columns, as their word: R walks window 0's, window 0 on or off; H uses window 1's own (DIFFERENCES, 1).
 unfoldable pub window1Columns : Reading → List ℕ → ℕ
@@ -34,8 +34,8 @@ window1Columns H registers = win1h registers
 unfoldable pub inWindow1 : Reading → List ℕ → ℕ → ℕ → Bool
 inWindow1 reading registers column line =
     let h = window1Columns reading registers in
-    (enableWindow1 (dispcnt registers) && inRows (top (win1v registers)) (bottom (win1v registers)) line)
-    && inColumns (left h) (right h) column
+    (enableWindow1 (dispcnt registers) && inRows (windowTop (win1v registers)) (windowBottom (win1v registers)) line)
+    && inColumns (windowLeft h) (windowRight h) column
 
 -- With any window on, a column belongs to the first of: window 0, window 1, object window (by the entry's mark, even with
 -- sprites off), outside.

@@ -9,8 +9,7 @@ ghost use Rattle.memory.specs.Sizes.{registersSize};
 ghost use Rattle.regs_window.specs.Windows.{inColumns, inRows};
 ghost use Rattle.obj_entries.specs.Entry.{entriesSize, entryCells, windowMark};
 ghost use Rattle.sfx_regions.specs.Region.{permitted, inWindow0, inWindow1};
-ghost use Rattle.sfx_regions.specs.Code.{regionRow, ColumnsOf, walkedRow};
-ghost use Rattle.sfx_marks.specs.Code.{Spanned};
+ghost use Rattle.sfx_regions.specs.Code.{regionRow, ColumnsOf, Walkable, walkedRow};
 use memory::DISPLAY_WIDTH;
 use obj_entries::entry_at;
 use regs::Reading;
@@ -21,8 +20,8 @@ use regs_window::read_win0;
 use regs_window::read_win1;
 use regs_window::read_winobj_flags;
 use regs_window::read_winout_flags;
-use rows::count_marks;
 use sfx_marks::Columns;
+use sfx_marks::count_marks;
 use sfx_marks::free_marks;
 use sfx_marks::joined;
 use sfx_marks::marks_of;
@@ -112,12 +111,12 @@ fn unclaimed_word(entries: &[u8], x: usize, winobj: u16, winout: u16) -> u16
 }
 
 // The row of a line on which windows 0 and 1 claim nothing.
-fn unclaimed_row(entries: &[u8], obj_window: bool, winobj: u16, winout: u16) -> [u16; 240]
+fn unclaimed_row(entries: &[u8], obj_window: bool, winobj: u16, winout: u16) -> [u16; DISPLAY_WIDTH]
     requires { ⌜ length (now entries) ≡ entriesSize ⌝ }
     ensures { λ r.
         ⌜ r ≡ tab (λ x. cond («obj_window» && windowMark (cellAt entryCells (now (entries .entry)) x)) winobj winout) 240 ⌝ }
 {
-    let mut row = [winout; 240];
+    let mut row = [winout; DISPLAY_WIDTH];
     if !obj_window {
         return row;
     }
@@ -137,19 +136,19 @@ fn windowed_row(
     win0: Columns,
     win1: Columns,
     words: RegionWords,
-) -> [u16; 240]
-    requires { ⌜ (length (now entries) ≡ entriesSize) × Spanned win0 × Spanned win1 ⌝ }
+) -> [u16; DISPLAY_WIDTH]
+    requires { ⌜ Walkable (now entries) win0 win1 ⌝ }
     ensures { λ r. ⌜ r ≡ walkedRow (now (entries .entry)) «obj_window» win0 win1 words ⌝ }
 {
     let word0 = words.win0;
     let word1 = words.win1;
     let first = marks_of(win0);
-    let mut row = [word0; 240];
+    let mut row = [word0; DISPLAY_WIDTH];
     if count_marks(first) as usize == DISPLAY_WIDTH {
         return row;
     }
     let second = free_marks(marks_of(win1), first);
-    let words1 = [word1; 240];
+    let words1 = [word1; DISPLAY_WIDTH];
     paint(&mut row, second, &words1);
     let occupied = joined(first, second);
     if count_marks(occupied) as usize == DISPLAY_WIDTH {
@@ -171,14 +170,14 @@ pub fn region_row(
     reading: Reading,
     line: usize,
     words: RegionWords,
-) -> [u16; 240]
+) -> [u16; DISPLAY_WIDTH]
     requires { ⌜ (length (now entries) ≡ entriesSize) × (length (now registers) ≡ registersSize) ⌝ }
     ensures { λ r. ⌜ r ≡ regionRow reading (now (registers .entry)) (now (entries .entry)) line words ⌝ }
 {
     let dispcnt = read_dispcnt(registers);
     if !dispcnt.is_using_windows() {
         let word = words.winnone;
-        return [word; 240];
+        return [word; DISPLAY_WIDTH];
     }
     let win0 = win0_columns(registers, line);
     let win1 = win1_columns(registers, reading, line);

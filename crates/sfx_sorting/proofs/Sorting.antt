@@ -1,15 +1,14 @@
 -- Laws of the order of backgrounds: the exchanges of code give it. No contract cites this file. Assumes nothing.
-use Prim.Native.Nat.{ℕ, zero, suc, _+_, _*_, _≤_, _<_, min, max}
+use Prim.Native.Nat.{ℕ, _+_, _*_, _≤_, _<_, min, max}
 use native.Mathlib.Omega.{arith}
 use mathlib.Core.Path.{_≡_, refl, sym, ap₂, _∙_}
-use mathlib.Core.Bool.{Bool, true, false, cond, _&&_, and-eq-true-iff}
+use mathlib.Core.Bool.{Bool, true, false, cond, _&&_}
 use mathlib.Core.List.{List, [], _∷_, _++_, map}
-use lib.Dec.{eqb, ltb}
+use lib.Dec.{eqb, leb, ltb}
 use lib.ListN.{length, getD}
-use mir.Syntax.{w64}
-use mir.Val.{Fits}
-use borrow.Author.Tests.{eqb-true}
+use borrow.Author.Tests.{eqb-true, leb-true}
 use Rattle.bits.specs.Bits.{bits}
+use Rattle.bits.proofs.Booleans.{and-both}
 use Rattle.regs.specs.Registers.{dispcnt, bgcnt}
 use Rattle.regs.specs.Display.{enableBg}
 use Rattle.regs.specs.Background.{priority}
@@ -19,7 +18,7 @@ use Rattle.sfx_sorting.specs.Ordered.{keep, stands, standing, ordered}
 use Rattle.sfx_sorting.specs.Code.{places, sortKey, sortedKeys, keyPlace}
 
 -- A background's rank: its priority, or 4 if it is off.
-abbrev pub rank : List ℕ → ℕ → ℕ
+abbrev rank : List ℕ → ℕ → ℕ
 rank registers bg = cond (getD (enableBg (dispcnt registers)) bg false) (priority (bgcnt registers bg)) 4
 
 rank-bound : (on : Bool) (w : ℕ) → cond on (bits 1 0 w) 4 < 5
@@ -76,84 +75,36 @@ unfoldable pub small : List ℕ → Bool
 small [] = true
 small (bg ∷ rest) = ltb bg 4 && small rest
 
--- Whether places hold an order: its backgrounds in turn, and 4 past the last.
-holds : List ℕ → List ℕ → Bool
-holds [] [] = true
-holds [] (bg ∷ rest) = false
-holds (p ∷ ps) [] = eqb p 4 && holds ps []
-holds (p ∷ ps) (bg ∷ rest) = (eqb p bg && ltb bg 4) && holds ps rest
+-- Whether two lists are the same.
+same : List ℕ → List ℕ → Bool
+same [] [] = true
+same [] (b ∷ m) = false
+same (a ∷ l) [] = false
+same (a ∷ l) (b ∷ m) = eqb a b && same l m
 
-holds-small : (ps order : List ℕ) → holds ps order ≡ true → small order ≡ true
-unfolding holds small
-holds-small [] [] t = refl
-holds-small [] (bg ∷ rest) t = cc
-holds-small (p ∷ ps) [] t = refl
-holds-small (p ∷ ps) (bg ∷ rest) t =
-    let both = and-eq-true-iff (eqb p bg && ltb bg 4) (holds ps rest) .0 t in
-    rw (and-eq-true-iff (eqb p bg) (ltb bg 4) .0 (both .0) .1, holds-small ps rest (both .1))
-
-holds-length : (ps order : List ℕ) → holds ps order ≡ true → length order ≤ length ps
-unfolding holds
-holds-length [] [] t = omega arith
-holds-length [] (bg ∷ rest) t = let e : _≡_ {A = ℕ} 0 1 = cc in omega arith
-holds-length (p ∷ ps) [] t = omega arith
-holds-length (p ∷ ps) (bg ∷ rest) t =
-    let fewer = holds-length ps rest (and-eq-true-iff (eqb p bg && ltb bg 4) (holds ps rest) .0 t .1) in
-    omega arith
-
--- An order in n places.
-filled : ℕ → List ℕ → List ℕ
-filled zero order = []
-filled (suc n) [] = 4 ∷ filled n []
-filled (suc n) (bg ∷ rest) = bg ∷ filled n rest
-
-places-filled : (order : List ℕ) → places order ≡ filled 4 order
-unfolding places filled
-places-filled [] = refl
-places-filled (a ∷ []) = refl
-places-filled (a ∷ b ∷ []) = refl
-places-filled (a ∷ b ∷ c ∷ []) = refl
-places-filled (a ∷ b ∷ c ∷ d ∷ rest) = refl
-
-holds-filled : (ps order : List ℕ) → holds ps order ≡ true → ps ≡ filled (length ps) order
-unfolding holds filled
-holds-filled [] [] t = refl
-holds-filled [] (bg ∷ rest) t = refl
-holds-filled (p ∷ ps) [] t =
-    let both = and-eq-true-iff (eqb p 4) (holds ps []) .0 t in
-    ap₂ _∷_ (eqb-true p 4 (both .0)) (holds-filled ps [] (both .1))
-holds-filled (p ∷ ps) (bg ∷ rest) t =
-    let both = and-eq-true-iff (eqb p bg && ltb bg 4) (holds ps rest) .0 t in
-    ap₂ _∷_ (eqb-true p bg (and-eq-true-iff (eqb p bg) (ltb bg 4) .0 (both .0) .0)) (holds-filled ps rest (both .1))
+same-is : (l m : List ℕ) → same l m ≡ true → l ≡ m
+unfolding same
+same-is [] [] t = refl
+same-is [] (b ∷ m) t = cc
+same-is (a ∷ l) [] t = cc
+same-is (a ∷ l) (b ∷ m) t =
+    let both = and-both (eqb a b) (same l m) t in
+    ap₂ _∷_ (eqb-true a b (both .0)) (same-is l m (both .1))
 
 -- The places that code makes of four ranks.
 placesOf : ℕ → ℕ → ℕ → ℕ → List ℕ
 placesOf a b c d = map keyPlace (sortedKeys (4 * a + 0) (4 * b + 1) (4 * c + 2) (4 * d + 3))
 
--- They hold the order.
-places-all : allRanks (λ a b c d. holds (placesOf a b c d) (orderOf a b c d)) ≡ true
-unfolding allRanks allBelow holds placesOf sortedKeys orderOf atRank four keep
+-- They are those of the order, which has at most four backgrounds.
+places-all : allRanks (λ a b c d. same (placesOf a b c d) (places (orderOf a b c d))) ≡ true
+unfolding allRanks allBelow same placesOf sortedKeys places orderOf atRank four keep
 places-all = refl
 
+few-all : allRanks (λ a b c d. small (orderOf a b c d) && leb (length (orderOf a b c d)) 4) ≡ true
+unfolding allRanks allBelow small orderOf atRank four keep
+few-all = refl
+
 -- ---- the order
-
--- The key of a background that is on, by the priority that was read, and that it doesn't wrap.
-module _ {p : ℕ} (control : ℕ) (p-is : p ≡ priority control) where
-  pub priority-fits : Fits w64 p
-  priority-fits = record { fits = omega arith }
-
-  pub scaled-fits : Fits w64 (4 * p)
-  scaled-fits = record { fits = omega arith }
-
-  pub key-fits : {bg : ℕ} → bg < 4 → Fits w64 (4 * p + bg)
-  key-fits bg< = record { fits = omega arith }
-
-  pub key-on : {on : Bool} (bg : ℕ) → on ≡ true → 4 * p + bg ≡ sortKey on (priority control) bg
-  key-on bg on-is = rw (on-is, p-is)
-
--- That of one that is off doesn't either.
-pub off-fits : {bg : ℕ} → bg < 4 → Fits w64 (16 + bg)
-off-fits bg< = record { fits = omega arith }
 
 -- The keys that ten calls put in order.
 pub sortedKeys-are : (a b c d : ℕ) {e f g h i j p q r s : ℕ}
@@ -181,13 +132,15 @@ pub places-sorted : (registers : List ℕ) {on : List Bool} {a b c d p q r s : �
 unfolding placesOf sortedKeys
 places-sorted registers on-is a-is b-is c-is d-is keys-is p-is q-is r-is s-is =
     rw (p-is, q-is, r-is, s-is, keys-is, a-is, b-is, c-is, d-is, on-is, ordered-ranks registers)
-    (holds-filled _ _ (test-ranks _ places-all registers) ∙ sym (places-filled _))
+    (same-is _ _ (test-ranks _ places-all registers))
 
--- At most four backgrounds stand in the order.
-pub length-ordered : (registers : List ℕ) → length (ordered registers) ≤ 4
-unfolding placesOf sortedKeys
-length-ordered registers = rw (ordered-ranks registers) (holds-length _ _ (test-ranks _ places-all registers))
+-- What stands in the order are backgrounds' numbers, at most four.
+module _ (registers : List ℕ) where
+  few : small (ordered registers) && leb (length (ordered registers)) 4 ≡ true
+  few = rw (ordered-ranks registers) (test-ranks _ few-all registers)
 
--- What stands in the order are backgrounds' numbers.
-pub small-ordered : (registers : List ℕ) → small (ordered registers) ≡ true
-small-ordered registers = rw (ordered-ranks registers) (holds-small _ _ (test-ranks _ places-all registers))
+  pub small-ordered : small (ordered registers) ≡ true
+  small-ordered = and-both _ _ few .0
+
+  pub length-ordered : length (ordered registers) ≤ 4
+  length-ordered = leb-true _ 4 (and-both (small (ordered registers)) _ few .1)

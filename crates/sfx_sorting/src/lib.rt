@@ -14,17 +14,16 @@ use regs::iodev::read_bgcnt;
 // What a place without a background holds.
 pub const NO_BACKGROUND: usize = 4;
 
+// The keys of backgrounds that are on are below this, those of the others from it on.
+const OFF_KEYS: usize = 4 * NO_BACKGROUND;
+
 // What a background is sorted by.
 fn sort_key(registers: &[u8], on: bool, bg: usize) -> usize
     requires { ⌜ (length (now registers) ≡ registersSize) × (bg < 4) ⌝ }
     ensures { λ r. ⌜ r ≡ sortKey on (priority (bgcnt (now (registers .entry)) bg)) bg ⌝ }
 {
     let priority = read_bgcnt(registers, bg).priority as usize;
-    if on {
-        4 * priority + bg
-    } else {
-        4 * NO_BACKGROUND + bg
-    }
+    if on { 4 * priority + bg } else { OFF_KEYS + bg }
 }
 
 fn lower(a: usize, b: usize) -> usize
@@ -61,7 +60,11 @@ fn sort_keys(a: usize, b: usize, c: usize, d: usize) -> [usize; 4]
 fn key_place(key: usize) -> usize
     ensures { λ r. ⌜ r ≡ keyPlace key ⌝ }
 {
-    if key < 16 { key % 4 } else { NO_BACKGROUND }
+    if key < OFF_KEYS {
+        key % 4
+    } else {
+        NO_BACKGROUND
+    }
 }
 
 // The backgrounds that are on, ordered by priority and number, in four places.

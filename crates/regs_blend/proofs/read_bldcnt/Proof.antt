@@ -4,8 +4,6 @@ use borrow.Author.Needs.{needs}
 use Rattle.regs_blend.proofs.read_bldcnt.Statement.{statement}
 use Rattle.regs_blend.proofs.read_bldcnt.Tie as tie
 
-returns : tie.Need-returns
-returns c = rw (c .before .read-16 .ensures) at (c .from .ensures)
-
 pub read-bldcnt-spec : {M : Type 1} → statement M
-read-bldcnt-spec = tie.close (tie.spec (search needs) (search needs) returns)
+read-bldcnt-spec =
+    tie.close (tie.spec (search needs) (search needs) (λ c. rw (c .before .read-16 .ensures) at (c .from .ensures)))

@@ -7,21 +7,21 @@ use Rattle.regs_window.specs.Windows.{farEdge}
 use Rattle.regs_window.proofs.far_edge.Statement.{statement}
 use Rattle.regs_window.proofs.far_edge.Tie as tie
 
-returns : tie.Need-returns
+beyond-screen : tie.Need-returns
 unfolding farEdge
-returns c = let a = c .before .args in simp (lt-ltb (a .screen) (a .far) (omega arith)) (search needs)
+beyond-screen c = let a = c .before .args in simp (lt-ltb (a .screen) (a .far) (omega arith)) (search needs)
 
-returns-2 : tie.Need-returns-2
+below-near : tie.Need-returns-2
 unfolding farEdge
-returns-2 c =
+below-near c =
     let a = c .before .before .args in
     simp (le-ltb (a .screen) (a .far) (omega arith), lt-ltb (a .far) (a .near) (omega arith)) (search needs)
 
-returns-3 : tie.Need-returns-3
+as-read : tie.Need-returns-3
 unfolding farEdge
-returns-3 c =
+as-read c =
     let a = c .before .before .args in
     simp (le-ltb (a .screen) (a .far) (omega arith), le-ltb (a .far) (a .near) (omega arith)) (search needs)
 
 pub far-edge-spec : {M : Type 1} → statement M
-far-edge-spec = tie.close (tie.spec returns returns-2 returns-3)
+far-edge-spec = tie.close (tie.spec beyond-screen below-near as-read)

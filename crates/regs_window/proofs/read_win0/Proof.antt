@@ -1,9 +1,6 @@
 -- regs_window::read_win0 meets its contract: the words and the flags are of the halfwords that were read.
 -- Assumes nothing.
-use mathlib.Core.Path.{ap, _∙_}
 use borrow.Author.Needs.{needs}
-use Rattle.bits.specs.Bits.{bits}
-use Rattle.regs_window.proofs.Laws.{windowOf-is}
 use Rattle.regs_window.proofs.read_win0.Statement.{statement}
 use Rattle.regs_window.proofs.read_win0.Tie as tie
 
@@ -12,8 +9,8 @@ returns c =
     let rows = c .before in
     let columns = rows .before in
     let flags = columns .before in
-    windowOf-is (c .from2 .ensures) (columns .read-162 .ensures) (rows .read-163 .ensures)
-    (flags .from .ensures ∙ ap (bits 5 0) (flags .before .read-16 .ensures))
+    rw (columns .read-162 .ensures, rows .read-163 .ensures, flags .from .ensures, flags .before .read-16 .ensures)
+    at (c .from2 .ensures)
 
 pub read-win0-spec : {M : Type 1} → statement M
 read-win0-spec = tie.close (tie.spec (search needs) (search needs) (search needs) (search needs) (search needs) returns)

@@ -1,22 +1,15 @@
--- sfx::finalize_pixel meets its contract: its three calls are the steps of columnColor.
+-- sfx::finalize_pixel meets its contract: its two calls are the steps of columnColor.
 -- Assumes nothing.
 use borrow.Author.Needs.{needs}
-use Rattle.sfx.proofs.Words.{columnColor-is}
+use Rattle.sfx.specs.Code.{columnColor}
 use Rattle.sfx.proofs.finalize_pixel.Statement.{statement}
 use Rattle.sfx.proofs.finalize_pixel.Tie as tie
 
-returns : tie.Need-returns
-returns c =
-    columnColor-is _ _ _ _ _ _ _ _ _
-    (c .before .before .background-pair .ensures)
-    (c .before .put-object .ensures)
-    (c .do-effect .ensures)
-
 pub finalize-pixel-spec : {M : Type 1} → statement M
+unfolding columnColor
 finalize-pixel-spec =
     tie.close
     (tie.spec
     (search needs)
     (search needs)
-    (search needs)
-    returns)
+    (λ c. rw (c .do-effect .ensures, c .before .column-pair .ensures)))

@@ -11,13 +11,12 @@ use Rattle.sfx.proofs.finalize_scanline.Tie as tie
 abbrev start : tie.After-line-regions → tie.Start
 start c = c .before .before .before .before .before .before .before
 
-object-tags-requires : tie.Need-object-tags-requires
-object-tags-requires c κs = (start (c .before .before) .pre .1, object-bound (c .before .line-layers .ensures))
-
-compose-row-requires : tie.Need-compose-row-requires
-compose-row-requires c κs =
-    let weights = c .before .before .before .before .before .before in
-    (weights .line-weights .ensures .1, unmarked (weights .before .line-layers .ensures))
+output-size : tie.Need-write-row-requires
+output-size c κs =
+    let lines = c .before .before .before in
+    let objects = lines .before .before .before .before in
+    let regions = objects .before .before .before .before in
+    start regions .pre .0
 
 returns : tie.Need-returns
 returns c =
@@ -54,22 +53,22 @@ finalize-scanline-spec =
     tie.close
     (tie.spec
     (search needs)
-    (λ c κs. (c .before .before .before .before .before .pre .3, c .read-dispcnt .ensures))
+    (λ c. search tt)
     (search needs)
-    (λ c κs. (start c .pre .2, start c .pre .3))
-    (λ c κs. (start (c .before) .pre .3, start (c .before) .pre .4))
-    object-tags-requires
-    (λ c κs. start (c .before .before .before) .pre .1)
+    (λ c. search tt)
+    (λ c. search tt)
+    (λ c. search object-bound)
+    (λ c. search tt)
     (search needs)
-    (λ c κs. tt)
     (search needs)
-    (λ c κs. tt)
     (search needs)
-    (λ c κs. tt)
     (search needs)
-    (λ c κs. tt)
-    compose-row-requires
-    (λ c κs. tt)
-    (λ c κs. start (c .before .before .before .before .before .before .before .before .before .before .before) .pre .0)
+    (search needs)
+    (search needs)
+    (search needs)
+    (search needs)
+    (λ c. search unmarked)
+    (search needs)
+    output-size
     (search needs)
     returns)

@@ -1,22 +1,15 @@
--- sfx::top_pixel meets its contract: its three calls are the steps of topColor.
+-- sfx::top_pixel meets its contract: its two calls are the steps of topColor.
 -- Assumes nothing.
 use borrow.Author.Needs.{needs}
-use Rattle.sfx.proofs.Words.{topColor-is}
+use Rattle.sfx.specs.Code.{topColor}
 use Rattle.sfx.proofs.top_pixel.Statement.{statement}
 use Rattle.sfx.proofs.top_pixel.Tie as tie
 
-returns : tie.Need-returns
-returns c =
-    topColor-is _ _ _ _ _ _ _ _ _
-    (c .before .before .background-pair .ensures)
-    (c .before .put-object .ensures)
-    (c .do-fade .ensures)
-
 pub top-pixel-spec : {M : Type 1} → statement M
+unfolding topColor
 top-pixel-spec =
     tie.close
     (tie.spec
     (search needs)
     (search needs)
-    (search needs)
-    returns)
+    (λ c. rw (c .do-fade .ensures, c .before .column-pair .ensures)))

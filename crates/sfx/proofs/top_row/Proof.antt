@@ -1,11 +1,11 @@
 -- sfx::top_row meets its contract: a turn sets one column's colour.
 -- Assumes nothing.
 use Prim.Native.Nat.{_-_}
-use mathlib.Core.Path.{refl}
+use mathlib.Core.Path.{refl, ap}
+use Rattle.rgb15.specs.Colour.{rgb}
 use Rattle.rows.proofs.Tabbed.{Tabbed, tabbed-none, tabbed-more, tabbed-all}
 use Rattle.sfx.specs.Code.{topColor, atColumn}
-use Rattle.rows.proofs.Columns.{halves-fit, next-fits, fewer-left}
-use Rattle.sfx.proofs.Words.{atColumn-is}
+use Rattle.sfx.proofs.Turns.{columns}
 use Rattle.sfx.proofs.top_row.Statement.{statement}
 use Rattle.sfx.proofs.top_row.Tie as tie
 
@@ -16,21 +16,11 @@ Inv-loop line weights regions tags objects line0 line1 line2 line3 colors₀ col
 abbrev μ-loop : tie.MeasureT-loop
 μ-loop line weights regions tags objects line0 line1 line2 line3 colors₀ column₀ colors column = 240 - column
 
-loop-holds : tie.Need-loop-holds Inv-loop μ-loop
-loop-holds c = tabbed-none refl
-
 loop-again : tie.Need-loop-again Inv-loop μ-loop
+unfolding atColumn
 loop-again c =
     let turn = c .before .before .before .before .before in
-    let head = turn .before in
-    let a = head .before .args in
-    tabbed-more (head .loop .inv) (turn .loop-test .taken)
-    (atColumn-is (topColor (a .line) (a .weights))
-    (a .t3) (a .t4) (a .t5) (a .t6) (a .t7) (a .t8) (a .t9) (head .loop .column) _
-    (c .top-pixel .ensures))
-
-returns : tie.Need-returns Inv-loop μ-loop
-returns c = tabbed-all (c .before .loop .inv) (c .loop-test .left)
+    tabbed-more (turn .before .loop .inv) (turn .loop-test .taken) (ap rgb (c .top-pixel .ensures))
 
 pub top-row-spec : {M : Type 1} → statement M
 top-row-spec =
@@ -38,25 +28,25 @@ top-row-spec =
     (tie.spec
     Inv-loop
     μ-loop
-    loop-holds
-    (λ c. halves-fit (c .loop-test .taken))
-    (λ c. c .loop-test .taken)
-    (λ c. halves-fit (c .loop-test .taken))
-    (λ c. c .loop-test .taken)
-    (λ c. halves-fit (c .loop-test .taken))
-    (λ c. c .loop-test .taken)
-    (λ c. halves-fit (c .loop-test .taken))
-    (λ c. c .loop-test .taken)
-    (λ c. halves-fit (c .before .loop-test .taken))
-    (λ c. c .before .loop-test .taken)
-    (λ c. halves-fit (c .before .before .loop-test .taken))
-    (λ c. c .before .before .loop-test .taken)
-    (λ c. halves-fit (c .before .before .before .loop-test .taken))
-    (λ c. c .before .before .before .loop-test .taken)
-    (λ c κs. c .before .before .before .before .before .before .pre)
-    (λ c. halves-fit (c .before .before .before .before .before .loop-test .taken))
-    (λ c. c .before .before .before .before .before .loop-test .taken)
-    (λ c. next-fits (c .before .before .before .before .before .loop-test .taken))
-    (λ c. fewer-left (c .before .before .before .before .before .loop-test .taken))
+    (λ c. tabbed-none refl)
+    (λ c. search columns)
+    (λ c. search columns)
+    (λ c. search columns)
+    (λ c. search columns)
+    (λ c. search columns)
+    (λ c. search columns)
+    (λ c. search columns)
+    (λ c. search columns)
+    (λ c. search columns)
+    (λ c. search columns)
+    (λ c. search columns)
+    (λ c. search columns)
+    (λ c. search columns)
+    (λ c. search columns)
+    (λ c. search columns)
+    (λ c. search columns)
+    (λ c. search columns)
+    (λ c. search columns)
+    (λ c. search columns)
     loop-again
-    returns)
+    (λ c. tabbed-all (c .before .loop .inv) (c .loop-test .left)))

@@ -4,8 +4,9 @@ use borrow.Author.Needs.{needs}
 use Rattle.sfx_effects.proofs.fade_color.Statement.{statement}
 use Rattle.sfx_effects.proofs.fade_color.Tie as tie
 
-returns : tie.Need-returns
-returns c = c .choose .ensures
-
 pub fade-color-spec : {M : Type 1} → statement M
-fade-color-spec = tie.close (tie.spec (search needs) returns)
+fade-color-spec =
+    tie.close
+    (tie.spec
+    (search needs)
+    (λ c. c .choose .ensures))

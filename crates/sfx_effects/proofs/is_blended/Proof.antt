@@ -5,12 +5,9 @@ use Rattle.sfx_effects.specs.Code.{isBlended}
 use Rattle.sfx_effects.proofs.is_blended.Statement.{statement}
 use Rattle.sfx_effects.proofs.is_blended.Tie as tie
 
-returns : tie.Need-returns
-unfolding isBlended
-returns c = search needs
-
 pub is-blended-spec : {M : Type 1} → statement M
+unfolding isBlended
 is-blended-spec =
     tie.close
     (tie.spec
-    returns)
+    (λ c. search needs))

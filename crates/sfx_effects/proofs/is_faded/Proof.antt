@@ -5,12 +5,9 @@ use Rattle.sfx_effects.specs.Code.{isFaded}
 use Rattle.sfx_effects.proofs.is_faded.Statement.{statement}
 use Rattle.sfx_effects.proofs.is_faded.Tie as tie
 
-returns : tie.Need-returns
-unfolding isFaded
-returns c = search needs
-
 pub is-faded-spec : {M : Type 1} → statement M
+unfolding isFaded
 is-faded-spec =
     tie.close
     (tie.spec
-    returns)
+    (λ c. search needs))

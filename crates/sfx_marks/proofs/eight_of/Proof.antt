@@ -13,22 +13,13 @@ Inv-loop row i eight₀ j₀ eight j = Tabbed (λ k. getD row (i + k) 0) 8 j eig
 abbrev μ-loop : tie.MeasureT-loop
 μ-loop row i eight₀ j₀ eight j = 8 - j
 
-loop-holds : tie.Need-loop-holds Inv-loop μ-loop
-loop-holds c = search (needs, tabbed-none)
-
-loop-again : tie.Need-loop-again Inv-loop μ-loop
-loop-again c = search (needs, tabbed-more)
-
-returns : tie.Need-returns Inv-loop μ-loop
-returns c = tabbed-all (c .before .loop .inv) (c .loop-test .left)
-
 pub eight-of-spec : {M : Type 1} → statement M
 eight-of-spec =
     tie.close
     (tie.spec
     Inv-loop
     μ-loop
-    loop-holds
+    (λ c. search (needs, tabbed-none))
     (search needs)
     (search needs)
     (search needs)
@@ -36,5 +27,5 @@ eight-of-spec =
     (search needs)
     (search needs)
     (search needs)
-    loop-again
-    returns)
+    (λ c. search (needs, tabbed-more))
+    (λ c. tabbed-all (c .before .loop .inv) (c .loop-test .left)))

@@ -13,9 +13,6 @@ use Rattle.sfx_marks.proofs.free_marks.Tie as tie
 few : (s : tie.Start) (i : ℕ) → getD (s .args .t2) i 0 < 2 ^ 64
 few s i = let fits : Fits w64 (getD (s .args .t2) i 0) = search needs in fits .fits
 
-returns : tie.Need-returns
-returns c = marksOf-free _ _ (c .pre) (few c)
-
 pub free-marks-spec : {M : Type 1} → statement M
 free-marks-spec =
     tie.close
@@ -28,4 +25,4 @@ free-marks-spec =
     (search needs)
     (search needs)
     (search needs)
-    returns)
+    (λ c. marksOf-free _ _ (c .pre) (few c)))

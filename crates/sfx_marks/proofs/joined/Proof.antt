@@ -5,9 +5,6 @@ use Rattle.sfx_marks.proofs.Marks.{marksOf-either}
 use Rattle.sfx_marks.proofs.joined.Statement.{statement}
 use Rattle.sfx_marks.proofs.joined.Tie as tie
 
-returns : tie.Need-returns
-returns c = marksOf-either _ _ (c .pre .0) (c .pre .1)
-
 pub joined-spec : {M : Type 1} → statement M
 joined-spec =
     tie.close
@@ -20,4 +17,4 @@ joined-spec =
     (search needs)
     (search needs)
     (search needs)
-    returns)
+    (λ c. marksOf-either _ _ (c .pre .0) (c .pre .1)))

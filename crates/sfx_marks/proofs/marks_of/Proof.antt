@@ -10,12 +10,11 @@ returns c =
     let third = c .before in
     let second = third .before in
     let first = second .before in
-    marksOf-columns _
+    marksOf-columns _ (first .before .pre)
     (first .marks-in .ensures)
     (second .marks-in2 .ensures)
     (third .marks-in3 .ensures)
     (c .marks-in4 .ensures)
-    (first .before .pre)
 
 pub marks-of-spec : {M : Type 1} → statement M
 marks-of-spec =

@@ -6,32 +6,20 @@ use Rattle.sfx_marks.proofs.Paints.{length-given, givenTo-none, givenTo
 use Rattle.sfx_marks.proofs.paint.Statement.{statement}
 use Rattle.sfx_marks.proofs.paint.Tie as tie
 
-paint-word-requires-2 : tie.Need-paint-word-requires-2
-paint-word-requires-2 c κs =
-    (length-given _ _ _ (c .before .paint-word .ensures), omega arith, omega arith, omega arith, omega arith)
-
-paint-word-requires-3 : tie.Need-paint-word-requires-3
-paint-word-requires-3 c κs =
-    (length-given _ _ _ (c .before .paint-word2 .ensures), omega arith, omega arith, omega arith, omega arith)
-
-paint-word-requires-4 : tie.Need-paint-word-requires-4
-paint-word-requires-4 c κs =
-    (length-given _ _ _ (c .before .paint-word3 .ensures), omega arith, omega arith, omega arith, omega arith)
-
 returns : tie.Need-returns
 returns c =
     let third = c .before .before in
     let second = third .before .before in
     let first = second .before .before in
-    let s = first .before .before in
-    let o = s .args .other .now in
-    let ws = s .args .t2 in
+    let start = first .before .before in
+    let o = start .args .other .now in
+    let ws = start .args .t2 in
     givenTo-all o ws _
     (givenTo-more o ws _ 3 240 (omega arith) (omega arith)
     (givenTo-more o ws _ 2 192 (omega arith) (omega arith)
     (givenTo-more o ws _ 1 128 (omega arith) (omega arith)
     (givenTo-more o ws _ 0 64 (omega arith) (omega arith)
-    (givenTo-none o ws _ (s .pre))
+    (givenTo-none o ws _ (start .pre))
     (first .paint-word .ensures))
     (second .paint-word2 .ensures))
     (third .paint-word3 .ensures))
@@ -44,9 +32,9 @@ paint-spec =
     (search needs)
     (search needs)
     (search needs)
-    paint-word-requires-2
+    (λ c κs. (length-given _ _ _ (c .before .paint-word .ensures), search needs))
     (search needs)
-    paint-word-requires-3
+    (λ c κs. (length-given _ _ _ (c .before .paint-word2 .ensures), search needs))
     (search needs)
-    paint-word-requires-4
+    (λ c κs. (length-given _ _ _ (c .before .paint-word3 .ensures), search needs))
     returns)

@@ -17,24 +17,22 @@ abbrev μ-loop : tie.MeasureT-loop
 
 loop-holds : tie.Need-loop-holds Inv-loop μ-loop
 loop-holds c =
-    let s = c .before in
-    let i = s .args .i in
-    let start : i + 0 ≡ i = omega arith in
-    rw start (painted-none _ _ _ _ (s .pre .0) (omega arith))
+    let start = c .before in
+    let none : start .args .i + 0 ≡ start .args .i = omega arith in
+    rw none (painted-none _ _ _ _ (start .pre .0) (omega arith))
 
 loop-again : tie.Need-loop-again Inv-loop μ-loop
 loop-again c =
     let test = c .before .before in
-    let p = test .before .loop .inv in
-    let words = test .before .before in
-    let s = words .before in
-    let i = s .args .i in
+    let painted = test .before .loop .inv in
     let j = test .before .loop .j in
-    let next : i + (j + 1) ≡ i + j + 1 = omega arith in
+    let words = test .before .before in
+    let start = words .before in
+    let next : start .args .i + (j + 1) ≡ start .args .i + j + 1 = omega arith in
     let word = getD-of-tab _ 8 j 0 (words .eight-of .ensures) (test .loop-test .taken) in
     rw next
-    (painted-more _ _ _ _ _ 1 p (omega arith)
-    (given-one _ _ _ _ (length-given _ _ _ (p .given)) (omega (arith, s .pre .1)) word (c .choose .ensures)))
+    (painted-more _ _ _ _ _ 1 painted (omega arith)
+    (given-one _ _ _ _ (length-given _ _ _ (painted .given)) (omega (arith, start .pre .1)) word (c .choose .ensures)))
 
 returns : tie.Need-returns Inv-loop μ-loop
 returns c = painted-all _ _ _ _ _ (c .before .loop .inv) (omega arith)

@@ -15,41 +15,35 @@ Inv-loop row₀ marks other first end left₀ x₀ row left x =
 abbrev μ-loop : tie.MeasureT-loop
 μ-loop row₀ marks other first end left₀ x₀ row left x = end - x
 
-returns : tie.Need-returns Inv-loop μ-loop
-returns c =
-    let s = c .before in
-    let none : s .args .marks ≡ 0 = c .if1 .taken in
-    rw none (given-none _ _ (s .pre .0) (markedIn-none _ _))
+no-marks : tie.Need-returns Inv-loop μ-loop
+no-marks c =
+    let start = c .before in
+    let none : start .args .marks ≡ 0 = c .if1 .taken in
+    rw none (given-none _ _ (start .pre .0) (markedIn-none _ _))
 
 loop-holds : tie.Need-loop-holds Inv-loop μ-loop
-loop-holds c = let pre = c .before .pre in (pre .1, painted-none _ _ _ _ (pre .0) (pre .3))
+loop-holds c =
+    let pre = c .before .pre in
+    (pre .1 .first-whole, painted-none _ _ _ _ (pre .0) (pre .1 .ordered))
 
-cast-paint-eight : tie.Need-cast-paint-eight Inv-loop μ-loop
-cast-paint-eight c = search needs
-
-paint-eight-requires : tie.Need-paint-eight-requires Inv-loop μ-loop
-paint-eight-requires c κs =
+next-inside : tie.Need-paint-eight-requires Inv-loop μ-loop
+next-inside c κs =
     let test = c .before in
-    let p = test .before .loop .inv in
-    let pre = test .before .before .before .pre in
-    (length-given _ _ _ (p .1 .given), omega (arith, p .0, test .loop-test .taken, pre .2, pre .4))
-
-add-x : tie.Need-add-x Inv-loop μ-loop
-add-x c = search needs
-
-loop-less : tie.Need-loop-less Inv-loop μ-loop
-loop-less c = search needs
+    let painted = test .before .loop .inv in
+    let eights = test .before .before .before .pre .1 in
+    (length-given _ _ _ (painted .1 .given), omega (arith, painted .0, test .loop-test .taken, eights .end-whole, eights .bound))
 
 loop-again : tie.Need-loop-again Inv-loop μ-loop
 loop-again c =
     let test = c .before .before in
-    let p = test .before .loop .inv in
-    let pre = test .before .before .before .pre in
-    let next = painted-more _ _ _ _ _ 8 (p .1) (omega (arith, p .0, test .loop-test .taken, pre .2)) (c .paint-eight .ensures) in
-    (omega (arith, p .0), next)
+    let painted = test .before .loop .inv in
+    let whole = test .before .before .before .pre .1 .end-whole in (
+      omega (arith, painted .0),
+      painted-more _ _ _ _ _ 8 (painted .1) (omega (arith, painted .0, test .loop-test .taken, whole)) (c .paint-eight .ensures),
+    )
 
-returns-2 : tie.Need-returns-2 Inv-loop μ-loop
-returns-2 c = painted-all _ _ _ _ _ (c .before .loop .inv .1) (c .loop-test .left)
+all-given : tie.Need-returns-2 Inv-loop μ-loop
+all-given c = painted-all _ _ _ _ _ (c .before .loop .inv .1) (c .loop-test .left)
 
 pub paint-word-spec : {M : Type 1} → statement M
 paint-word-spec =
@@ -57,11 +51,11 @@ paint-word-spec =
     (tie.spec
     Inv-loop
     μ-loop
-    returns
+    no-marks
     loop-holds
-    cast-paint-eight
-    paint-eight-requires
-    add-x
-    loop-less
+    (search needs)
+    next-inside
+    (search needs)
+    (search needs)
     loop-again
-    returns-2)
+    all-given)

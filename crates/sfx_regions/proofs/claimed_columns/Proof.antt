@@ -5,20 +5,21 @@ use Rattle.sfx_regions.proofs.Spans.{claimed-some, claimed-none}
 use Rattle.sfx_regions.proofs.claimed_columns.Statement.{statement}
 use Rattle.sfx_regions.proofs.claimed_columns.Tie as tie
 
-returns : tie.Need-returns
-returns c =
+some : tie.Need-returns
+some c =
     let rows = c .before in
     let right = rows .before in
     let left = right .before in
-    claimed-some (left .before .args .on) _ _ (left .left .ensures) (right .right .ensures) (rows .contains-y .ensures) (c .if1 .taken)
+    claimed-some (left .before .args .on) _ _
+    (left .left .ensures) (right .right .ensures) (rows .contains-y .ensures) (c .if1 .taken)
 
-returns-2 : tie.Need-returns-2
-returns-2 c =
+none : tie.Need-returns-2
+none c =
     let rows = c .before in
     let right = rows .before in
     let left = right .before in
-    claimed-none (left .before .args .on) _ _ (left .left .ensures) (right .right .ensures) (rows .contains-y .ensures) (c .if1 .left)
+    claimed-none (left .before .args .on) _ _
+    (left .left .ensures) (right .right .ensures) (rows .contains-y .ensures) (c .if1 .left)
 
 pub claimed-columns-spec : {M : Type 1} → statement M
-claimed-columns-spec =
-    tie.close (tie.spec (search needs) (search needs) (search needs) returns returns-2)
+claimed-columns-spec = tie.close (tie.spec (search needs) (search needs) (search needs) some none)

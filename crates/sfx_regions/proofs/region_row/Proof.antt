@@ -7,19 +7,14 @@ use Rattle.sfx_regions.proofs.Regions.{usesWindows-is, regionRow-none, 
 use Rattle.sfx_regions.proofs.region_row.Statement.{statement}
 use Rattle.sfx_regions.proofs.region_row.Tie as tie
 
-windowed-row-requires : tie.Need-windowed-row-requires
-windowed-row-requires c κs =
-    let win0 = c .before in
-    (search needs, win0 .win0-columns .ensures .spanned, c .win1-columns .ensures .spanned)
-
-returns : tie.Need-returns
-returns c =
+no-window : tie.Need-returns
+no-window c =
     let on = c .before in
     regionRow-none _ _ _ _ _
     (usesWindows-is _ (on .before .read-dispcnt .ensures) (on .is-using-windows .ensures) ∙ not-true _ (c .if1 .taken))
 
-returns-2 : tie.Need-returns-2
-returns-2 c =
+walked : tie.Need-returns-2
+walked c =
     let win1 = c .before in
     let win0 = win1 .before in
     let test = win0 .before in
@@ -38,8 +33,8 @@ region-row-spec =
     (tie.spec
     (search needs)
     (search needs)
-    returns
+    no-window
     (search needs)
     (search needs)
-    windowed-row-requires
-    returns-2)
+    (search needs)
+    walked)

@@ -18,17 +18,16 @@ Inv-loop entries obj-window winobj winout row₀ x₀ row x =
 abbrev μ-loop : tie.MeasureT-loop
 μ-loop entries obj-window winobj winout row₀ x₀ row x = 240 - x
 
-returns : tie.Need-returns Inv-loop μ-loop
-returns c = rw (not-true (c .before .before .args .obj-window) (c .if1 .taken)) (tab-replicate _ 240)
+no-object-window : tie.Need-returns Inv-loop μ-loop
+no-object-window c =
+    let start = c .before .before in
+    rw (not-true (start .args .obj-window) (c .if1 .taken)) (tab-replicate _ 240)
 
-loop-holds : tie.Need-loop-holds Inv-loop μ-loop
-loop-holds c = search (needs, tabbed-none)
-
-loop-again : tie.Need-loop-again Inv-loop μ-loop
-loop-again c = search (needs, tabbed-more)
-
-returns-2 : tie.Need-returns-2 Inv-loop μ-loop
-returns-2 c = rw (not-false (c .before .before .before .before .args .obj-window) (c .before .before .if1 .left)) (tabbed-all (c .before .loop .inv) (c .loop-test .left))
+by-marks : tie.Need-returns-2 Inv-loop μ-loop
+by-marks c =
+    let test = c .before .before in
+    let start = test .before .before in
+    rw (not-false (start .args .obj-window) (test .if1 .left)) (tabbed-all (c .before .loop .inv) (c .loop-test .left))
 
 pub unclaimed-row-spec : {M : Type 1} → statement M
 unclaimed-row-spec =
@@ -36,12 +35,12 @@ unclaimed-row-spec =
     (tie.spec
     Inv-loop
     μ-loop
-    returns
-    loop-holds
+    no-object-window
+    (λ c. search (needs, tabbed-none))
     (search needs)
     (search needs)
     (search needs)
     (search needs)
     (search needs)
-    loop-again
-    returns-2)
+    (λ c. search (needs, tabbed-more))
+    by-marks)

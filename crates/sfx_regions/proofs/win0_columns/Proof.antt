@@ -10,8 +10,8 @@ returns : tie.Need-returns
 unfolding inWindow0
 returns c =
     let win0 = c .before in
-    columnsOf-window _ (win0 .before .read-dispcnt .ensures .window0-is) (win0 .read-win0 .ensures) (win0 .read-win0 .ensures)
-    (c .claimed-columns .ensures)
+    let edges = win0 .read-win0 .ensures in
+    columnsOf-window _ (win0 .before .read-dispcnt .ensures .window0-is) edges edges (c .claimed-columns .ensures)
 
 pub win0-columns-spec : {M : Type 1} → statement M
 win0-columns-spec = tie.close (tie.spec (search needs) (search needs) (search needs) returns)

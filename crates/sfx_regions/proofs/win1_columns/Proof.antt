@@ -6,24 +6,24 @@ use Rattle.sfx_regions.proofs.Spans.{columnsOf-window}
 use Rattle.sfx_regions.proofs.win1_columns.Statement.{statement}
 use Rattle.sfx_regions.proofs.win1_columns.Tie as tie
 
-returns : tie.Need-returns
+columns-of-window0 : tie.Need-returns
 unfolding inWindow1 window1Columns
-returns c =
+columns-of-window0 c =
     let told = c .before in
     let win1 = told .before .before in
     let win0 = win1 .before in
+    let on-is = win0 .before .read-dispcnt .ensures .window1-is in
     rw (told .enum-told .given .1)
-    (columnsOf-window _ (win0 .before .read-dispcnt .ensures .window1-is) (win1 .read-win1 .ensures) (win0 .read-win0 .ensures)
-    (c .claimed-columns .ensures))
+    (columnsOf-window _ on-is (win1 .read-win1 .ensures) (win0 .read-win0 .ensures) (c .claimed-columns .ensures))
 
-returns-2 : tie.Need-returns-2
+own-columns : tie.Need-returns-2
 unfolding inWindow1 window1Columns
-returns-2 c =
+own-columns c =
     let told = c .before in
     let win1 = told .before .before in
+    let edges = win1 .read-win1 .ensures in
     rw (told .enum-told2 .given .1)
-    (columnsOf-window _ (win1 .before .before .read-dispcnt .ensures .window1-is) (win1 .read-win1 .ensures) (win1 .read-win1 .ensures)
-    (c .claimed-columns2 .ensures))
+    (columnsOf-window _ (win1 .before .before .read-dispcnt .ensures .window1-is) edges edges (c .claimed-columns2 .ensures))
 
 pub win1-columns-spec : {M : Type 1} → statement M
 win1-columns-spec =
@@ -36,5 +36,5 @@ win1-columns-spec =
     (search needs)
     (search needs)
     (search needs)
-    returns
-    returns-2)
+    columns-of-window0
+    own-columns)

@@ -7,13 +7,13 @@ use Rattle.sfx_regions.proofs.Walks.{walked-first, walked-second, walke
 use Rattle.sfx_regions.proofs.windowed_row.Statement.{statement}
 use Rattle.sfx_regions.proofs.windowed_row.Tie as tie
 
-returns : tie.Need-returns
-returns c =
+first-holds-all : tie.Need-returns
+first-holds-all c =
     let count = c .before in
     walked-first _ _ _ _ _ (count .before .marks-of .ensures) (sym (count .count-marks .ensures) ∙ c .if1 .taken)
 
-returns-2 : tie.Need-returns-2
-returns-2 c =
+both-hold-all : tie.Need-returns-2
+both-hold-all c =
     let count = c .before in
     let occupied = count .before in
     let row = occupied .before in
@@ -28,13 +28,8 @@ returns-2 c =
     (occupied .joined .ensures)
     (sym (count .count-marks2 .ensures) ∙ c .if2 .taken)
 
-paint-requires-2 : tie.Need-paint-requires-2
-paint-requires-2 c κs =
-    let count = c .before .before .before .before .before .before in
-    length-given _ _ _ (count .before .before .paint .ensures)
-
-returns-3 : tie.Need-returns-3
-returns-3 c =
+some-left : tie.Need-returns-3
+some-left c =
     let left = c .before .before in
     let line = left .before in
     let rest = line .before .before in
@@ -61,16 +56,16 @@ windowed-row-spec =
     (search needs)
     (search needs)
     (search needs)
-    returns
+    first-holds-all
     (search needs)
     (search needs)
     (search needs)
     (search needs)
     (search needs)
     (search needs)
-    returns-2
+    both-hold-all
     (search needs)
     (search needs)
     (search needs)
-    paint-requires-2
-    returns-3)
+    (λ c κs. search (needs, length-given))
+    some-left)

@@ -4,11 +4,6 @@ use borrow.Author.Tests.{lt-ltb, le-ltb}
 use Rattle.sfx_sorting.proofs.key_place.Statement.{statement}
 use Rattle.sfx_sorting.proofs.key_place.Tie as tie
 
-returns : tie.Need-returns
-returns c = rw (lt-ltb _ _ (c .if1 .taken))
-
-returns-2 : tie.Need-returns-2
-returns-2 c = rw (le-ltb _ _ (c .if1 .left))
-
 pub key-place-spec : {M : Type 1} → statement M
-key-place-spec = tie.close (tie.spec returns returns-2)
+key-place-spec =
+    tie.close (tie.spec (λ c. rw (lt-ltb _ _ (c .if1 .taken))) (λ c. rw (le-ltb _ _ (c .if1 .left))))

@@ -4,8 +4,6 @@ use borrow.Author.Needs.{needs}
 use Rattle.regs.proofs.iodev.read_dispcnt.Statement.{statement}
 use Rattle.regs.proofs.iodev.read_dispcnt.Tie as tie
 
-returns : tie.Need-returns
-returns c = rw (c .before .read-16 .ensures) at (c .from .ensures)
-
 pub read-dispcnt-spec : {M : Type 1} → statement M
-read-dispcnt-spec = tie.close (tie.spec (search needs) (search needs) returns)
+read-dispcnt-spec =
+    tie.close (tie.spec (search needs) (search needs) (λ c. rw (c .before .read-16 .ensures) at (c .from .ensures)))

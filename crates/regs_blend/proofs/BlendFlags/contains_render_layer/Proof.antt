@@ -5,8 +5,6 @@ use borrow.Author.Needs.{needs}
 use Rattle.regs_blend.proofs.BlendFlags.contains_render_layer.Statement.{statement}
 use Rattle.regs_blend.proofs.BlendFlags.contains_render_layer.Tie as tie
 
-returns : tie.Need-returns
-returns c = rw (c .before .target-bit .ensures .0, sub-self)
-
 pub contains-render-layer-spec : {M : Type 1} → statement M
-contains-render-layer-spec = tie.close (tie.spec (search needs) (search needs) returns)
+contains-render-layer-spec =
+    tie.close (tie.spec (search needs) (search needs) (λ c. rw (c .before .target-bit .ensures .0, sub-self)))

@@ -7,21 +7,11 @@ use Rattle.regs_blend.specs.Blend.{blendModeOf}
 use Rattle.regs_blend.proofs.BlendMode.from.Statement.{statement}
 use Rattle.regs_blend.proofs.BlendMode.from.Tie as tie
 
-returns : tie.Need-returns
+-- What is left below 4 is 3.
+black : tie.Need-returns-4
 unfolding blendModeOf
-returns c = search needs
-
-returns-2 : tie.Need-returns-2
-unfolding blendModeOf
-returns-2 c = search needs
-
-returns-3 : tie.Need-returns-3
-unfolding blendModeOf
-returns-3 c = search needs
-
-returns-4 : tie.Need-returns-4
-unfolding blendModeOf
-returns-4 c = let e : c .before .args .value ≡ 3 = omega (arith, c .match .rest) in rw e
+black c = let e : c .before .args .value ≡ 3 = omega (arith, c .match .rest) in rw e
 
 pub from-spec : {M : Type 1} → statement M
-from-spec = tie.close (tie.spec returns returns-2 returns-3 returns-4)
+unfolding blendModeOf
+from-spec = tie.close (tie.spec (λ c. search needs) (λ c. search needs) (λ c. search needs) black)

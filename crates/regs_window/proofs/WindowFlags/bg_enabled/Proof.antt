@@ -5,8 +5,5 @@ use borrow.Author.Needs.{needs}
 use Rattle.regs_window.proofs.WindowFlags.bg_enabled.Statement.{statement}
 use Rattle.regs_window.proofs.WindowFlags.bg_enabled.Tie as tie
 
-returns : tie.Need-returns
-returns c = rw (sub-self (c .before .args .bg))
-
 pub bg-enabled-spec : {M : Type 1} → statement M
-bg-enabled-spec = tie.close (tie.spec (search needs) (search needs) returns)
+bg-enabled-spec = tie.close (tie.spec (search needs) (search needs) (λ c. rw (sub-self (c .before .args .bg))))

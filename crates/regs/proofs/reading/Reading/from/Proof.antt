@@ -7,13 +7,11 @@ use Rattle.regs.specs.Reading.{readingOf}
 use Rattle.regs.proofs.reading.Reading.from.Statement.{statement}
 use Rattle.regs.proofs.reading.Reading.from.Tie as tie
 
-returns : tie.Need-returns
+-- What is left below 2 is 1.
+hardware : tie.Need-returns-2
 unfolding readingOf
-returns c = search needs
-
-returns-2 : tie.Need-returns-2
-unfolding readingOf
-returns-2 c = let e : c .before .args .number ≡ 1 = omega (arith, c .match .rest) in rw e
+hardware c = let e : c .before .args .number ≡ 1 = omega (arith, c .match .rest) in rw e
 
 pub from-spec : {M : Type 1} → statement M
-from-spec = tie.close (tie.spec returns returns-2)
+unfolding readingOf
+from-spec = tie.close (tie.spec (λ c. search needs) hardware)
