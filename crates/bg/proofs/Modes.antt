@@ -1,27 +1,34 @@
 -- Laws of the backgrounds of each mode. No contract cites this file. Assumes nothing.
 use Prim.Native.Nat.{ℕ, _≤_, _<_}
+use native.Mathlib.Omega.{arith}
 use mathlib.Core.Path.{_≡_, refl, sym, ap, _∙_}
-use mathlib.Core.Bool.{Bool, true, cond}
+use mathlib.Core.Bool.{Bool, true, false, cond}
 use mathlib.Core.List.{List}
 use lib.Dec.{eqb, leb}
 use lib.IntN.{ℤ}
 use lib.ListN.{replicate}
-use borrow.Author.Tests.{leb-true, eqb-true, eq-eqb, ne-eqb}
+use borrow.Author.Tests.{leb-true, eqb-true}
 use Rattle.rgb15.specs.Colour.{rgb, transparent}
 use Rattle.rgb15.specs.declared.Rgb15.{Rgb15}
+use Rattle.signed.specs.Signed.{inRange}
 use Rattle.rows.specs.Below.{allBelow}
 use Rattle.rows.specs.Tab.{tab}
 use Rattle.rows.proofs.Below.{allBelow-at}
-use Rattle.rows.proofs.Tab.{tab-cong, tab-replicate}
-use Rattle.regs.specs.Registers.{dispcnt, bgcnt, hofs, vofs, pa, pc}
-use Rattle.regs.specs.Display.{mode, displayFrameSelect}
+use Rattle.rows.proofs.Tab.{tab-replicate}
+use Rattle.regs.specs.Registers.{dispcnt, bgcnt, hofs, vofs}
+use Rattle.regs.specs.Display.{DisplayControlOf, mode}
+use Rattle.regs.specs.declared.DisplayControl.{DisplayControl}
+use Rattle.bg_points.specs.References.{inRanges}
+use Rattle.bg_points.specs.declared.references.References.{References}
+use Rattle.bg_points.proofs.Ranges.{ranges-true}
 use Rattle.bg_regular.specs.Regular.{regularColor}
 use Rattle.bg.specs.Affine.{affineBgColor}
 use Rattle.bg.specs.Bitmap.{bitmapColor}
-use Rattle.gpu_step.specs.References.{References}
-use Rattle.bg.specs.Background.{referenceX, referenceY, bgKind, kindColor, backgroundColor}
+use Rattle.bg.specs.Background.{bgKind, kindColor, backgroundColor}
+use Rattle.bg.specs.Code.{BgAffineOf, Liftable}
 use Rattle.bg.specs.declared.BgKind.{BgKind}
 use Rattle.bg.specs.declared.BgKind.the-variants.{Regular, Affine, Bitmap, Absent}
+use Rattle.bg.specs.declared.steps.BgAffine.{BgAffine}
 
 -- ---- which backgrounds a kind can be
 
@@ -39,80 +46,77 @@ placed-bgKind m bg m< bg< =
     (allBelow-at (λ j. allBelow (λ k. placed (bgKind j k) k) 4) 6 refl m m<)
     bg bg<
 
-pub bgKind-affine : (m bg : ℕ) → m < 6 → bg < 4 → bgKind m bg ≡ Affine → 2 ≤ bg
-bgKind-affine m bg m< bg< e = leb-true 2 bg (ap (λ (kind : BgKind). placed kind bg) (sym e) ∙ placed-bgKind m bg m< bg<)
+-- ---- a background's reference numbers
 
-pub bgKind-bitmap : (m bg : ℕ) → m < 6 → bg < 4 → bgKind m bg ≡ Bitmap → bg ≡ 2
-bgKind-bitmap m bg m< bg< e = eqb-true bg 2 (ap (λ (kind : BgKind). placed kind bg) (sym e) ∙ placed-bgKind m bg m< bg<)
+inRange-either : (t : Bool) (a b : ℤ) → inRange a ≡ true → inRange b ≡ true → inRange (cond t a b) ≡ true
+inRange-either true a b a-in b-in = a-in
+inRange-either false a b a-in b-in = b-in
 
--- The reference numbers of backgrounds 2 and 3.
-pub reference-two : (a b : ℤ) (bg : ℕ) → bg ≡ 2 → a ≡ cond (eqb bg 2) a b
-reference-two a b bg e = rw (eq-eqb bg 2 e)
+pub bgAffine-liftable : {registers : List ℕ} {references : References} {bg : ℕ} {a : BgAffine} →
+    inRanges references ≡ true → BgAffineOf registers references bg a → Liftable a
+bgAffine-liftable {references = references} {bg} ranges a-is =
+    let all = ranges-true references ranges in
+    record {
+      x-in = ap inRange (a-is .x-is) ∙ inRange-either (eqb bg 2) _ _ (all .x2-in) (all .x3-in);
+      y-in = ap inRange (a-is .y-is) ∙ inRange-either (eqb bg 2) _ _ (all .y2-in) (all .y3-in);
+    }
 
-pub reference-three : (a b : ℤ) (bg : ℕ) → (bg ≡ 2 → ⊥) → b ≡ cond (eqb bg 2) a b
-reference-three a b bg e = rw (ne-eqb bg 2 e)
+-- ---- a background of each kind: which it can be, and its line as it is made
 
--- ---- the colour of a background of each kind
+module _ (registers : List ℕ) (bg : ℕ) {d : DisplayControl} {kind : BgKind}
+    (display-is : DisplayControlOf (dispcnt registers) d) (kind-is : kind ≡ bgKind (d .mode) bg) where
+  kind-placed : (k : BgKind) → kind ≡ k → mode (dispcnt registers) < 6 → bg < 4 → placed k bg ≡ true
+  kind-placed k told mode< bg< =
+      rw (sym told, kind-is, display-is .mode-is) (placed-bgKind (mode (dispcnt registers)) bg mode< bg<)
 
-module _ (vram palette registers : List ℕ) (references : References) (bg column line : ℕ) where
-  pub backgroundColor-regular : bgKind (mode (dispcnt registers)) bg ≡ Regular →
-      backgroundColor vram palette registers references bg column line
-      ≡ regularColor vram palette (bgcnt registers bg) (hofs registers bg) (vofs registers bg) column line
-  unfolding backgroundColor kindColor
-  backgroundColor-regular e = rw e
+  pub affine-from-two : kind ≡ Affine → mode (dispcnt registers) < 6 → bg < 4 → 2 ≤ bg
+  affine-from-two told mode< bg< = leb-true 2 bg (kind-placed Affine told mode< bg<)
 
-  pub backgroundColor-affine : bgKind (mode (dispcnt registers)) bg ≡ Affine →
-      backgroundColor vram palette registers references bg column line
-      ≡ affineBgColor vram palette (bgcnt registers bg)
-      (referenceX references bg) (referenceY references bg) (pa registers bg) (pc registers bg) column
-  unfolding backgroundColor kindColor
-  backgroundColor-affine e = rw e
+  pub bitmap-from-two : kind ≡ Bitmap → mode (dispcnt registers) < 6 → bg < 4 → 2 ≤ bg
+  bitmap-from-two told mode< bg< = let two = eqb-true bg 2 (kind-placed Bitmap told mode< bg<) in omega arith
 
-  pub backgroundColor-bitmap : bgKind (mode (dispcnt registers)) bg ≡ Bitmap →
-      backgroundColor vram palette registers references bg column line
-      ≡ bitmapColor vram palette (mode (dispcnt registers)) (displayFrameSelect (dispcnt registers)) (bgcnt registers bg)
-      (referenceX references bg) (referenceY references bg) (pa registers bg) (pc registers bg) column
-  unfolding backgroundColor kindColor
-  backgroundColor-bitmap e = rw e
+  module _ (vram palette : List ℕ) (references : References) (line : ℕ) where
+    kindLine-is : (k : BgKind) {r : List Rgb15} → kind ≡ k →
+        r ≡ tab (λ column. rgb (kindColor k vram palette registers references bg column line)) 240 →
+        r ≡ tab (λ column. rgb (backgroundColor vram palette registers references bg column line)) 240
+    unfolding backgroundColor
+    kindLine-is k told r-is = rw (sym (display-is .mode-is), sym kind-is, told) r-is
 
-  pub backgroundColor-absent : bgKind (mode (dispcnt registers)) bg ≡ Absent →
-      backgroundColor vram palette registers references bg column line ≡ transparent
-  unfolding backgroundColor kindColor
-  backgroundColor-absent e = rw e
+    pub absentLine-is : kind ≡ Absent →
+        replicate 240 (rgb transparent) ≡ tab (λ column. rgb (backgroundColor vram palette registers references bg column line)) 240
+    unfolding kindColor
+    absentLine-is told = kindLine-is Absent told (tab-replicate (rgb transparent) 240)
 
--- ---- the line of a background of each kind, as it is made
+    module _ {control : ℕ} (control-is : control ≡ bgcnt registers bg) where
+      pub regularLine-is : {h v : ℕ} {r : List Rgb15} → kind ≡ Regular → h ≡ hofs registers bg → v ≡ vofs registers bg →
+          r ≡ tab (λ column. rgb (regularColor vram palette control h v column line)) 240 →
+          r ≡ tab (λ column. rgb (backgroundColor vram palette registers references bg column line)) 240
+      unfolding kindColor
+      regularLine-is told h-is v-is r-is = kindLine-is Regular told (rw (sym control-is, sym h-is, sym v-is) r-is)
 
-module _ (vram palette registers : List ℕ) (references : References) (bg line : ℕ) {m control : ℕ} {kind : BgKind}
-    (kind-is : kind ≡ bgKind m bg) (m-is : m ≡ mode (dispcnt registers)) (control-is : control ≡ bgcnt registers bg) where
-  pub regularLine-is : {h v : ℕ} {r : List Rgb15} → kind ≡ Regular → h ≡ hofs registers bg → v ≡ vofs registers bg →
-      r ≡ tab (λ column. rgb (regularColor vram palette control h v column line)) 240 →
-      r ≡ tab (λ column. rgb (backgroundColor vram palette registers references bg column line)) 240
-  regularLine-is told h-is v-is r-is =
-      r-is
-      ∙ tab-cong _ _ 240 (λ column column<.
-      ap rgb (cc (backgroundColor-regular vram palette registers references bg column line (cc))))
+      module _ {a : BgAffine} (a-is : BgAffineOf registers references bg a) where
+        pub affineLine-is : {r : List Rgb15} → kind ≡ Affine →
+            r ≡ tab (λ column. rgb (affineBgColor vram palette control (a .x) (a .y) (a .pa) (a .pc) column)) 240 →
+            r ≡ tab (λ column. rgb (backgroundColor vram palette registers references bg column line)) 240
+        unfolding kindColor
+        affineLine-is told r-is =
+            kindLine-is Affine told
+            (rw (sym control-is, sym (a-is .x-is), sym (a-is .y-is), sym (a-is .pa-is), sym (a-is .pc-is)) r-is)
 
-  pub affineLine-is : {x y : ℤ} {a c : ℕ} {r : List Rgb15} → kind ≡ Affine →
-      x ≡ referenceX references bg → y ≡ referenceY references bg → a ≡ pa registers bg → c ≡ pc registers bg →
-      r ≡ tab (λ column. rgb (affineBgColor vram palette control x y a c column)) 240 →
-      r ≡ tab (λ column. rgb (backgroundColor vram palette registers references bg column line)) 240
-  affineLine-is told x-is y-is a-is c-is r-is =
-      r-is
-      ∙ tab-cong _ _ 240 (λ column column<.
-      ap rgb (cc (backgroundColor-affine vram palette registers references bg column line (cc))))
-
-  pub bitmapLine-is : {x y : ℤ} {frame a c : ℕ} {r : List Rgb15} → kind ≡ Bitmap → frame ≡ displayFrameSelect (dispcnt registers) →
-      x ≡ referenceX references bg → y ≡ referenceY references bg → a ≡ pa registers bg → c ≡ pc registers bg →
-      r ≡ tab (λ column. rgb (bitmapColor vram palette m frame control x y a c column)) 240 →
-      r ≡ tab (λ column. rgb (backgroundColor vram palette registers references bg column line)) 240
-  bitmapLine-is told frame-is x-is y-is a-is c-is r-is =
-      r-is
-      ∙ tab-cong _ _ 240 (λ column column<.
-      ap rgb (cc (backgroundColor-bitmap vram palette registers references bg column line (cc))))
-
-  pub absentLine-is : kind ≡ Absent →
-      replicate 240 (rgb transparent) ≡ tab (λ column. rgb (backgroundColor vram palette registers references bg column line)) 240
-  absentLine-is told =
-      tab-replicate (rgb transparent) 240
-      ∙ tab-cong _ _ 240 (λ column column<.
-      ap rgb (sym (backgroundColor-absent vram palette registers references bg column line (cc))))
+        pub bitmapLine-is : {r : List Rgb15} → kind ≡ Bitmap →
+            r
+            ≡ tab (λ column. rgb (bitmapColor vram palette (d .mode) (d .«display_frame_select») control
+            (a .x) (a .y) (a .pa) (a .pc) column)) 240 →
+            r ≡ tab (λ column. rgb (backgroundColor vram palette registers references bg column line)) 240
+        unfolding kindColor
+        bitmapLine-is told r-is =
+            kindLine-is Bitmap told
+            (rw (
+              sym (display-is .mode-is),
+              sym (display-is .frame-is),
+              sym control-is,
+              sym (a-is .x-is),
+              sym (a-is .y-is),
+              sym (a-is .pa-is),
+              sym (a-is .pc-is),
+            ) r-is)

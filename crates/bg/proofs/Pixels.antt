@@ -6,9 +6,9 @@ use Prim.Native.Nat.{ℕ, zero, suc, _+_, _-_, _*_, _/_, _%_, _^_, _≤_, _<_}
 use mathlib.Core.List.{List}
 use native.Mathlib.Nat.{mul-le-mul}
 use native.Mathlib.Omega.{arith}
-use lib.IntN.{ℤ, pos, subℕ, _+ℤ_, _*ℤ_}
+use lib.IntN.{pos, subℕ, _+ℤ_, _*ℤ_}
 use borrow.Author.Tests.{eq-eqb, ne-eqb}
-use Rattle.signed.specs.Signed.{signed16, down256}
+use Rattle.signed.specs.Signed.{down256}
 use Rattle.memory.specs.Memory.{byte, half}
 use Rattle.memory.specs.Palette.{paletteColor}
 use Rattle.memory.specs.declared.PixelFormat.the-variants.{BPP8}
@@ -16,11 +16,14 @@ use Rattle.regs.specs.Background.{BgControlOf, charBlock, screenBlock}
 use Rattle.regs.specs.declared.BgControl.{BgControl}
 use Rattle.bg_regular.specs.Regular.{tileColor}
 use Rattle.bg_points.specs.Code.{coordinate, Side}
-use Rattle.bg_points.specs.Point.{pointColor}
+use Rattle.bg_points.specs.Point.{transformBgPoint, pointColor}
 use Rattle.bg_points.specs.declared.ViewPort.{ViewPort}
 use Rattle.bg_points.proofs.Points.{point-is}
 use Rattle.bg.specs.Bitmap.{BitmapViewPort, bitmapStart, bitmapPixel, bitmapColor}
 use Rattle.bg.specs.Affine.{affineSide, affineTile, affinePixel, affineBgColor}
+use Rattle.bg.specs.Code.{LiftedOf}
+use Rattle.bg.specs.declared.steps.BgAffine.{BgAffine}
+use Rattle.bg.specs.declared.steps.Lifted.{Lifted}
 
 -- No side is longer than 1024.
 pub affineSide-bound : (size : ℕ) → size < 4 → affineSide size ≤ 1024
@@ -74,25 +77,31 @@ module _ (vram palette : List ℕ) (mode start w x y : ℕ) where
 
 -- ---- a column's colour, as it is made
 
-module _ (vram palette : List ℕ) (control rx ry pa pc dx dy column x y : ℕ)
-    (pa-is : signed16 pa ≡ subℕ dx (2 ^ 15)) (pc-is : signed16 pc ≡ subℕ dy (2 ^ 15))
-    (x-is : down256 (subℕ rx (2 ^ 28) +ℤ pos column *ℤ subℕ dx (2 ^ 15)) ≡ coordinate x)
-    (y-is : down256 (subℕ ry (2 ^ 28) +ℤ pos column *ℤ subℕ dy (2 ^ 15)) ≡ coordinate y)
-    {b : BgControl} (control-is : BgControlOf control b) where
+module _ (vram palette : List ℕ) (column x y : ℕ) {control : ℕ} {a : BgAffine} {l : Lifted} {b : BgControl}
+    (lifted : LiftedOf a l)
+    (x-is : down256 (subℕ (l .x) (2 ^ 28) +ℤ pos column *ℤ subℕ (l .pa) (2 ^ 15)) ≡ coordinate x)
+    (y-is : down256 (subℕ (l .y) (2 ^ 28) +ℤ pos column *ℤ subℕ (l .pc) (2 ^ 15)) ≡ coordinate y)
+    (control-is : BgControlOf control b) where
+  across : transformBgPoint (a .x) (a .pa) column ≡ coordinate x
+  across = point-is (l .x) (l .pa) (a .pa) column x (lifted .x-is) (lifted .pa-is) x-is
+
+  down : transformBgPoint (a .y) (a .pc) column ≡ coordinate y
+  down = point-is (l .y) (l .pc) (a .pc) column y (lifted .y-is) (lifted .pc-is) y-is
+
   -- Of an affine background.
   pub affineBgColor-is : {side screen tiles c : ℕ} →
       side ≡ affineSide (b .size) → screen ≡ screenBlock (b .«screen_base_block») → tiles ≡ charBlock (b .«character_base_block») →
       c ≡ pointColor (b .«affine_wraparound») side side (affinePixel vram palette screen tiles side) (coordinate x) (coordinate y) →
-      c ≡ affineBgColor vram palette control (subℕ rx (2 ^ 28)) (subℕ ry (2 ^ 28)) pa pc column
+      c ≡ affineBgColor vram palette control (a .x) (a .y) (a .pa) (a .pc) column
   unfolding affineBgColor
   affineBgColor-is side-is screen-is tiles-is color-is =
-      cc (point-is rx dx pa column x pa-is x-is, point-is ry dy pc column y pc-is y-is)
+      cc (across, down)
 
   -- Of a bitmap.
-  pub bitmapColor-is : (mode frame : ℕ) {v : ViewPort} {start c : ℕ} →
+  pub bitmapColor-is : (mode frame : ℕ) {start c : ℕ} {v : ViewPort} →
       BitmapViewPort mode (b .«affine_wraparound») v → start ≡ bitmapStart mode frame →
       c ≡ pointColor (v .wraparound) (v .w) (v .h) (bitmapPixel vram palette mode start (v .w)) (coordinate x) (coordinate y) →
-      c ≡ bitmapColor vram palette mode frame control (subℕ rx (2 ^ 28)) (subℕ ry (2 ^ 28)) pa pc column
+      c ≡ bitmapColor vram palette mode frame control (a .x) (a .y) (a .pa) (a .pc) column
   unfolding bitmapColor
   bitmapColor-is mode frame viewport-is start-is color-is =
-      cc (point-is rx dx pa column x pa-is x-is, point-is ry dy pc column y pc-is y-is)
+      cc (across, down)

@@ -9,7 +9,7 @@ use Rattle.rgb15.specs.Colour.{transparent}
 use Rattle.regs.specs.Registers.{dispcnt, bgcnt, hofs, vofs, pa, pc}
 use Rattle.regs.specs.Display.{mode, displayFrameSelect}
 use Rattle.bg_regular.specs.Regular.{regularColor}
-use Rattle.gpu_step.specs.References.{References}
+use Rattle.bg_points.specs.declared.references.References.{References}
 use Rattle.bg.specs.Affine.{affineBgColor}
 use Rattle.bg.specs.Bitmap.{bitmapColor}
 use Rattle.bg.specs.declared.BgKind.{BgKind}

@@ -2,3 +2,4 @@
 pub mod Affine
 pub mod Bitmap
 pub mod Background
+pub mod Code

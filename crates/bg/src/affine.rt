@@ -1,14 +1,14 @@
 // Affine backgrounds, of modes 1 and 2 (gpu/render/text.rs).
 ghost use mathlib.Core.Path.{_≡_};
-ghost use mathlib.Core.Bool.{true};
 ghost use Prim.Native.Nat.{_≤_, _<_};
 ghost use Rattle.rgb15.specs.Colour.{rgb};
-ghost use Rattle.signed.specs.Signed.{inRange};
 ghost use Rattle.rows.specs.Tab.{tab};
 ghost use Rattle.memory.specs.Code.{Lent};
 ghost use Rattle.bg_points.specs.Code.{coordinate, Side};
 ghost use Rattle.bg_points.specs.Point.{pointColor};
 ghost use Rattle.bg.specs.Affine.{affineSide, affinePixel, affineBgColor};
+ghost use Rattle.bg.specs.Code.{Liftable};
+use crate::steps::BgAffine;
 use bg_points::ViewPort;
 use bg_points::rem_euclid;
 use bg_points::transform_bg_point;
@@ -17,8 +17,6 @@ use memory::PixelFormat;
 use memory::read_8;
 use regs::BgControl;
 use rgb15::Rgb15;
-use signed::lift_half;
-use signed::lift_i32;
 use tiles::tile_color;
 
 // The side of an affine background.
@@ -91,13 +89,11 @@ pub fn render_aff_bg(
     vram: &[u8],
     palette: &[u8],
     control: u16,
-    ref_x: i32,
-    ref_y: i32,
-    pa: u16,
-    pc: u16,
-) -> [Rgb15; 240]
-    requires { ⌜ Lent (now vram) (now palette) × (inRange «ref_x» ≡ true) × (inRange «ref_y» ≡ true) ⌝ }
-    ensures { λ r. ⌜ r ≡ tab (λ column. rgb (affineBgColor (now (vram .entry)) (now (palette .entry)) control «ref_x» «ref_y» pa pc column)) 240 ⌝ }
+    affine: BgAffine,
+) -> [Rgb15; DISPLAY_WIDTH]
+    requires { ⌜ Lent (now vram) (now palette) × Liftable affine ⌝ }
+    ensures { λ r. ⌜ r ≡ tab (λ column. rgb (affineBgColor (now (vram .entry)) (now (palette .entry)) control
+        (affine .x) (affine .y) (affine .pa) (affine .pc) column)) 240 ⌝ }
 {
     let bgcnt = BgControl::from(control);
     let side = texture_size(bgcnt.size);
@@ -108,15 +104,12 @@ pub fn render_aff_bg(
     };
     let screen_block = bgcnt.screen_block();
     let char_block = bgcnt.char_block();
-    let rx = lift_i32(ref_x);
-    let ry = lift_i32(ref_y);
-    let dx = lift_half(pa);
-    let dy = lift_half(pc);
-    let mut bg_line = [Rgb15::TRANSPARENT; 240];
+    let lifted = affine.lift();
+    let mut bg_line = [Rgb15::TRANSPARENT; DISPLAY_WIDTH];
     let mut screen_x: usize = 0;
     while screen_x < DISPLAY_WIDTH {
-        let x = transform_bg_point(rx, dx, screen_x as u32);
-        let y = transform_bg_point(ry, dy, screen_x as u32);
+        let x = transform_bg_point(lifted.x, lifted.pa, screen_x as u32);
+        let y = transform_bg_point(lifted.y, lifted.pc, screen_x as u32);
         bg_line[screen_x] = aff_bg_color(vram, palette, screen_block, char_block, viewport, x, y);
         screen_x += 1;
     }

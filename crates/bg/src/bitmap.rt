@@ -1,14 +1,14 @@
 // Bitmap backgrounds, of modes 3 to 5 (gpu/render/bitmap.rs), as one routine: they differ in size, page and pixel.
 ghost use mathlib.Core.Path.{_≡_};
-ghost use mathlib.Core.Bool.{true};
 ghost use Prim.Native.Nat.{_+_, _*_, _≤_, _<_};
 ghost use Rattle.rgb15.specs.Colour.{rgb};
-ghost use Rattle.signed.specs.Signed.{inRange};
 ghost use Rattle.rows.specs.Tab.{tab};
 ghost use Rattle.memory.specs.Code.{Lent};
 ghost use Rattle.bg_points.specs.Code.{coordinate, Side};
 ghost use Rattle.bg_points.specs.Point.{pointColor};
 ghost use Rattle.bg.specs.Bitmap.{BitmapViewPort, bitmapStart, bitmapPixel, bitmapColor};
+ghost use Rattle.bg.specs.Code.{Liftable};
+use crate::steps::BgAffine;
 use bg_points::ViewPort;
 use bg_points::rem_euclid;
 use bg_points::transform_bg_point;
@@ -18,8 +18,6 @@ use memory::read_8;
 use memory::read_16;
 use regs::BgControl;
 use rgb15::Rgb15;
-use signed::lift_half;
-use signed::lift_i32;
 
 // The size of a mode's picture.
 fn bitmap_viewport(mode: u16, wraparound: bool) -> ViewPort
@@ -103,26 +101,21 @@ pub fn render_bitmap(
     mode: u16,
     frame: u16,
     control: u16,
-    ref_x: i32,
-    ref_y: i32,
-    pa: u16,
-    pc: u16,
-) -> [Rgb15; 240]
-    requires { ⌜ Lent (now vram) (now palette) × (frame < 2) × (inRange «ref_x» ≡ true) × (inRange «ref_y» ≡ true) ⌝ }
-    ensures { λ r. ⌜ r ≡ tab (λ column. rgb (bitmapColor (now (vram .entry)) (now (palette .entry)) mode frame control «ref_x» «ref_y» pa pc column)) 240 ⌝ }
+    affine: BgAffine,
+) -> [Rgb15; DISPLAY_WIDTH]
+    requires { ⌜ Lent (now vram) (now palette) × (frame < 2) × Liftable affine ⌝ }
+    ensures { λ r. ⌜ r ≡ tab (λ column. rgb (bitmapColor (now (vram .entry)) (now (palette .entry)) mode frame control
+        (affine .x) (affine .y) (affine .pa) (affine .pc) column)) 240 ⌝ }
 {
     let bgcnt = BgControl::from(control);
     let viewport = bitmap_viewport(mode, bgcnt.affine_wraparound);
     let page = page_ofs(mode, frame);
-    let rx = lift_i32(ref_x);
-    let ry = lift_i32(ref_y);
-    let dx = lift_half(pa);
-    let dy = lift_half(pc);
-    let mut bg_line = [Rgb15::TRANSPARENT; 240];
+    let lifted = affine.lift();
+    let mut bg_line = [Rgb15::TRANSPARENT; DISPLAY_WIDTH];
     let mut screen_x: usize = 0;
     while screen_x < DISPLAY_WIDTH {
-        let x = transform_bg_point(rx, dx, screen_x as u32);
-        let y = transform_bg_point(ry, dy, screen_x as u32);
+        let x = transform_bg_point(lifted.x, lifted.pa, screen_x as u32);
+        let y = transform_bg_point(lifted.y, lifted.pc, screen_x as u32);
         bg_line[screen_x] = bitmap_color(vram, palette, mode, page, viewport, x, y);
         screen_x += 1;
     }

@@ -31,8 +31,8 @@ module _ (wraparound : Bool) (w h : ℕ) (pixel : ℕ → ℕ → ℕ) (x y : �
   pointColor-shown shown across down color = rw (sym test ∙ not-false t shown) (cc)
 
 -- A coordinate of its point, from a lifted reference number and a lifted step.
-pub point-is : (a b step column q : ℕ) → signed16 step ≡ subℕ b (2 ^ 15) →
+pub point-is : {z : ℤ} (a b step column q : ℕ) → z ≡ subℕ a (2 ^ 28) → signed16 step ≡ subℕ b (2 ^ 15) →
     down256 (subℕ a (2 ^ 28) +ℤ pos column *ℤ subℕ b (2 ^ 15)) ≡ coordinate q →
-    transformBgPoint (subℕ a (2 ^ 28)) step column ≡ coordinate q
+    transformBgPoint z step column ≡ coordinate q
 unfolding transformBgPoint
-point-is a b step column q step-is q-is = ap (λ (z : ℤ). down256 (subℕ a (2 ^ 28) +ℤ pos column *ℤ z)) step-is ∙ q-is
+point-is a b step column q z-is step-is q-is = rw (z-is, step-is) q-is

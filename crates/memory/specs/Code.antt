@@ -7,5 +7,6 @@ use lib.ListN.{length}
 use Rattle.memory.specs.Sizes.{videoRamSize, paletteRamSize}
 
 -- Video memory and the palette have their lengths.
-abbrev pub Lent : List ℕ → List ℕ → Type 0
-Lent vram palette = (length vram ≡ videoRamSize) × (length palette ≡ paletteRamSize)
+pub record Lent (vram palette : List ℕ) : Type 0 where
+  pub vram-is : length vram ≡ videoRamSize
+  pub palette-is : length palette ≡ paletteRamSize

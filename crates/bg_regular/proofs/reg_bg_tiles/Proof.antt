@@ -86,7 +86,7 @@ map-entry-requires c κs =
     let size = y .before in
     let screen = size .before .before in
     let control = screen .before .before in (
-      control .before .before .before .pre .0 .0,
+      control .before .before .before .pre .0 .vram-is,
       screenBlock-bound (control .from .ensures) (screen .screen-block .ensures),
       regularWidth-side _ (size .size-regular .ensures .width-is) .2,
       c .wrap2 .ensures .1,

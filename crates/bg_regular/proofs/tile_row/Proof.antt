@@ -12,17 +12,17 @@ use Rattle.bg_regular.proofs.tile_row.Tie as tie
 tile-color-requires-6 : tie.Need-tile-color-requires-6
 tile-color-requires-6 c κs =
     let pre = c .before .before .before .before .before .before .before .pre in
-    (pre .0 .0, pre .0 .1, omega arith, pre .1, omega arith, pre .2, pre .3)
+    (pre .0 .vram-is, pre .0 .palette-is, omega arith, pre .1, omega arith, pre .2, pre .3)
 
 tile-color-requires-7 : tie.Need-tile-color-requires-7
 tile-color-requires-7 c κs =
     let pre = c .before .before .before .before .before .before .before .before .pre in
-    (pre .0 .0, pre .0 .1, omega arith, pre .1, omega arith, pre .2, pre .3)
+    (pre .0 .vram-is, pre .0 .palette-is, omega arith, pre .1, omega arith, pre .2, pre .3)
 
 tile-color-requires-8 : tie.Need-tile-color-requires-8
 tile-color-requires-8 c κs =
     let pre = c .before .before .before .before .before .before .before .before .before .pre in
-    (pre .0 .0, pre .0 .1, omega arith, pre .1, omega arith, pre .2, pre .3)
+    (pre .0 .vram-is, pre .0 .palette-is, omega arith, pre .1, omega arith, pre .2, pre .3)
 
 returns : tie.Need-returns
 returns c =

@@ -44,7 +44,7 @@ add-read-8 : tie.Need-add-read-8
 add-read-8 c = let pre = c .before .before .before .pre in byte-fits (pre .1) (pre .2) (pre .3) (pre .4)
 
 read-8-requires : tie.Need-read-8-requires
-read-8-requires c κs = let pre = c .before .before .before .pre in byte-inside (pre .1) (pre .2) (pre .3) (pre .4) (pre .0 .0)
+read-8-requires c κs = let pre = c .before .before .before .pre in byte-inside (pre .1) (pre .2) (pre .3) (pre .4) (pre .0 .vram-is)
 
 mul-read-16 : tie.Need-mul-read-16
 mul-read-16 c = let pre = c .before .before .before .pre in bytes-fit (pre .1) (pre .2) (pre .3) (pre .4)
@@ -53,7 +53,7 @@ add-read-16 : tie.Need-add-read-16
 add-read-16 c = let pre = c .before .before .before .pre in half-fits (pre .1) (pre .2) (pre .3) (pre .4)
 
 read-16-requires : tie.Need-read-16-requires
-read-16-requires c κs = let pre = c .before .before .before .pre in half-inside (pre .1) (pre .2) (pre .3) (pre .4) (pre .0 .0)
+read-16-requires c κs = let pre = c .before .before .before .pre in half-inside (pre .1) (pre .2) (pre .3) (pre .4) (pre .0 .vram-is)
 
 returns : tie.Need-returns
 returns c =

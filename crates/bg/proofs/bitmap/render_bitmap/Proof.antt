@@ -1,98 +1,49 @@
 -- bg::bitmap::render_bitmap meets its contract: a turn sets one column, at the point that its lifted numbers give.
 -- Assumes nothing.
-use Prim.Native.Nat.{_-_, _^_}
-use mathlib.Core.Path.{sym, ap, _∙_}
-use mir.Facts.{toZ-ofZ}
+use Prim.Native.Nat.{_-_}
 use borrow.Author.Needs.{needs}
-use lib.IntN.{subℕ}
 use lib.ListN.{length-replicate}
 use Rattle.rgb15.specs.Colour.{rgb, transparent}
-use Rattle.signed.specs.Signed.{inRange}
 use Rattle.rows.proofs.Tabbed.{Tabbed, tabbed-none, tabbed-all}
-use Rattle.bg.specs.Bitmap.{bitmapColor}
 use Rattle.rows.proofs.Columns.{column-fits, halves-fit, next-fits, fewer-left}
 use Rattle.bg_regular.proofs.Lines.{colored-more}
+use Rattle.bg.specs.Bitmap.{bitmapColor}
+use Rattle.bg.specs.Code.{LiftedOf}
+use Rattle.bg.specs.declared.steps.BgAffine.{BgAffine}
 use Rattle.bg.proofs.Pixels.{bitmapViewPort-sides, bitmapColor-is}
 use Rattle.bg.proofs.bitmap.render_bitmap.Statement.{statement}
 use Rattle.bg.proofs.bitmap.render_bitmap.Tie as tie
 
+-- The columns so far are those of the numbers that were lifted.
 abbrev Inv-loop : tie.InvT-loop
-Inv-loop vram palette mode frame control ref-x ref-y pa pc viewport page rx ry dx dy bg-line₀ screen-x₀ bg-line screen-x =
-    Tabbed (λ column. rgb (bitmapColor vram palette mode frame control (subℕ rx (2 ^ 28)) (subℕ ry (2 ^ 28)) pa pc column)) 240 screen-x bg-line
+Inv-loop vram palette mode frame control viewport page lifted bg-line₀ screen-x₀ bg-line screen-x =
+    (a : BgAffine) → LiftedOf a lifted →
+    Tabbed (λ column. rgb (bitmapColor vram palette mode frame control (a .x) (a .y) (a .pa) (a .pc) column)) 240 screen-x bg-line
 
 abbrev μ-loop : tie.MeasureT-loop
-μ-loop vram palette mode frame control ref-x ref-y pa pc viewport page rx ry dx dy bg-line₀ screen-x₀ bg-line screen-x =
-    240 - screen-x
+μ-loop vram palette mode frame control viewport page lifted bg-line₀ screen-x₀ bg-line screen-x = 240 - screen-x
 
-lift-i32-requires : tie.Need-lift-i32-requires Inv-loop μ-loop
-lift-i32-requires c κs =
-    let start = c .before .before .before .before .before in
-    ap inRange (toZ-ofZ (start .fits .ref-x)) ∙ start .pre .2
-
-lift-i32-requires-2 : tie.Need-lift-i32-requires-2 Inv-loop μ-loop
-lift-i32-requires-2 c κs =
-    let start = c .before .before .before .before .before .before in
-    ap inRange (toZ-ofZ (start .fits .ref-y)) ∙ start .pre .3
-
-loop-holds : tie.Need-loop-holds Inv-loop μ-loop
-loop-holds c = tabbed-none (length-replicate 240 (rgb transparent))
-
-transform-bg-point-requires : tie.Need-transform-bg-point-requires Inv-loop μ-loop
-transform-bg-point-requires c κs =
-    let dx = c .before .before .before in
-    (dx .before .before .lift-i32 .ensures .1, dx .lift-half .ensures .1, c .loop-test .taken)
-
-transform-bg-point-requires-2 : tie.Need-transform-bg-point-requires-2 Inv-loop μ-loop
-transform-bg-point-requires-2 c κs =
-    let dy = c .before .before .before in
-    (dy .before .before .lift-i322 .ensures .1, dy .lift-half2 .ensures .1, c .before .loop-test .taken)
-
-bitmap-color-requires : tie.Need-bitmap-color-requires Inv-loop μ-loop
-bitmap-color-requires c κs =
-    let page = c .before .before .before .before .before .before .before .before in
+in-bitmap : tie.Need-bitmap-color-requires Inv-loop μ-loop
+in-bitmap c κs =
+    let page = c .before .before .before .before .before in
     let sides = bitmapViewPort-sides (page .before .bitmap-viewport .ensures) in
-    (page .before .before .before .before .before .pre .0, page .page-ofs .ensures .1, sides .0, sides .1, sides .2, sides .3)
+    search needs
 
 loop-again : tie.Need-loop-again Inv-loop μ-loop
 loop-again c =
     let y = c .before in
     let x = y .before in
     let loop = x .before .before in
-    let dy = loop .before in
-    let dx = dy .before in
-    let page = dx .before .before .before in
+    let page = loop .before .before in
     let viewport = page .before in
-    colored-more (loop .loop .inv) (x .before .loop-test .taken)
-    (bitmapColor-is _ _ _
-    (dx .before .before .lift-i32 .result)
-    (dx .before .lift-i322 .result)
-    _ _
-    (dx .lift-half .result)
-    (dy .lift-half2 .result)
-    (loop .loop .screen-x)
-    (x .transform-bg-point .result)
-    (y .transform-bg-point2 .result)
-    (dx .lift-half .ensures .0)
-    (dy .lift-half2 .ensures .0)
-    (x .transform-bg-point .ensures)
-    (y .transform-bg-point2 .ensures)
-    (viewport .before .from .ensures)
-    _ _
-    (viewport .bitmap-viewport .ensures)
-    (page .page-ofs .ensures .0)
-    (c .bitmap-color .ensures))
+    λ a lifted.
+    colored-more (loop .loop .inv a lifted) (x .before .loop-test .taken)
+    (bitmapColor-is _ _ _ (x .transform-bg-point .result) (y .transform-bg-point2 .result) lifted
+    (x .transform-bg-point .ensures) (y .transform-bg-point2 .ensures) (viewport .before .from .ensures)
+    _ _ (viewport .bitmap-viewport .ensures) (page .page-ofs .ensures .0) (c .bitmap-color .ensures))
 
 returns : tie.Need-returns Inv-loop μ-loop
-returns c =
-    let loop = c .before in
-    let ry = loop .before .before .before in
-    let rx = ry .before in
-    let fits = rx .before .before .before .before .before .before .fits in
-    rw (
-      sym (toZ-ofZ (fits .ref-x)) ∙ rx .lift-i32 .ensures .0,
-      sym (toZ-ofZ (fits .ref-y)) ∙ ry .lift-i322 .ensures .0,
-    )
-    (tabbed-all (loop .loop .inv) (c .loop-test .left))
+returns c = let loop = c .before in tabbed-all (loop .loop .inv _ (loop .before .lift .ensures)) (c .loop-test .left)
 
 pub render-bitmap-spec : {M : Type 1} → statement M
 render-bitmap-spec =
@@ -103,16 +54,13 @@ render-bitmap-spec =
     (search needs)
     (search needs)
     (search needs)
-    lift-i32-requires
-    lift-i32-requires-2
-    (search needs)
-    (search needs)
-    loop-holds
+    (λ c κs. search needs)
+    (λ c a lifted. tabbed-none (length-replicate 240 (rgb transparent)))
     (λ c. column-fits (c .loop-test .taken))
-    transform-bg-point-requires
+    (search needs)
     (λ c. column-fits (c .before .loop-test .taken))
-    transform-bg-point-requires-2
-    bitmap-color-requires
+    (search needs)
+    in-bitmap
     (λ c. halves-fit (c .before .before .before .loop-test .taken))
     (λ c. c .before .before .before .loop-test .taken)
     (λ c. next-fits (c .before .before .before .loop-test .taken))
