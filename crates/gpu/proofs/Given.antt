@@ -1,6 +1,6 @@
 -- What a draw gives, by its verdict. No contract cites this file. Assumes nothing.
 use Prim.Native.Nat.{ℕ}
-use mathlib.Core.Path.{_≡_, sym, _∙_}
+use mathlib.Core.Path.{_≡_, sym, ap, _∙_}
 use mathlib.Core.Bool.{Bool, true, false, cond}
 use mathlib.Core.List.{List, [], _∷_}
 use lib.ListN.{length}
@@ -15,7 +15,8 @@ use Rattle.obj_entries.specs.Entry.{entryCells}
 use Rattle.obj_sprites.specs.Sprite.{source}
 use Rattle.obj.specs.Put.{putSprites}
 use Rattle.obj.proofs.Shapes.{shapedRow-after}
-use Rattle.gpu_judge.specs.Judge.{Call, verdict, numberOf}
+use Rattle.bg_points.specs.declared.references.References.{References}
+use Rattle.gpu_judge.specs.Judge.{Call, callOf, verdict, numberOf}
 use Rattle.gpu_judge.specs.Code.{Lengths, Ready}
 use Rattle.gpu_judge.specs.declared.Verdict.{Verdict}
 use Rattle.gpu_judge.specs.declared.Verdict.the-variants.{
@@ -103,3 +104,11 @@ module _ (c : Call) (entries output : List ℕ) where
   draws-refused BadEntry one v-is n-is = rw (n-is, sym v-is)
   draws-refused Blank one v-is n-is = absurd (miss (0 ∷ 1 ∷ 2 ∷ 3 ∷ 4 ∷ 5 ∷ 6 ∷ []) 7 tt one)
   draws-refused Accepted one v-is n-is = absurd (miss (0 ∷ 1 ∷ 2 ∷ 3 ∷ 4 ∷ 5 ∷ 6 ∷ []) 8 tt one)
+
+-- The same draw, its reference numbers given as equal ones.
+pub draws-same : {q r : References} (reading line : ℕ) (vram palette oam registers entries output : List ℕ)
+    {number : ℕ} {entriesLeft outputLeft : List ℕ} → q ≡ r
+    → Draws (callOf reading line q vram palette oam registers) entries output number entriesLeft outputLeft
+    → Draws (callOf reading line r vram palette oam registers) entries output number entriesLeft outputLeft
+draws-same reading line vram palette oam registers entries output same d =
+    d ∙ ap (λ four. draw (callOf reading line four vram palette oam registers) entries output) same
