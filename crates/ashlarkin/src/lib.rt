@@ -5,8 +5,10 @@ ghost use Rattle.obj_entries.specs.Reset.{Resets};
 ghost use Rattle.gpu_step.specs.Step.{StepsTo};
 ghost use Rattle.gpu_draw_records.specs.Draw.{DrawsRecords};
 ghost use Rattle.gpu_records.specs.Step.{StepsRecords};
+use bg_points::References;
 use gpu_records::BgAffine;
 use gpu_records::ObjBufferEntry;
+use gpu_step::Steps;
 
 // A line drawn: 0, or the number of the refusal, which changes nothing lent.
 #[no_mangle]
@@ -26,17 +28,14 @@ pub extern "C" fn ashlarkin_draw(
 ) -> u32
     ensures { λ n.
         ⌜ Draws
-        (callOf reading line x2 y2 x3 y3
+        (callOf reading line (record { x2 = x2; y2 = y2; x3 = x3; y3 = y3 })
         (now (vram .entry)) (now (palette .entry)) (now (oam .entry)) (now (registers .entry)))
         (now (entries .entry)) (now (output .entry)) n (now (entries .exit)) (now (output .exit)) ⌝ }
 {
     gpu::draw(
         reading,
         line,
-        x2,
-        y2,
-        x3,
-        y3,
+        References { x2, y2, x3, y3 },
         vram,
         palette,
         oam,
@@ -66,7 +65,7 @@ pub extern "C" fn ashlarkin_step(
     ensures { λ n.
         ⌜ StepsTo (record { pb2 = pb2; pd2 = pd2; pb3 = pb3; pd3 = pd3 }) (now (references .entry)) n (now (references .exit)) ⌝ }
 {
-    gpu_step::step(pb2, pd2, pb3, pd3, references)
+    gpu_step::step(Steps { pb2, pd2, pb3, pd3 }, references)
 }
 
 // Both backgrounds stepped at a line's end, each in place: 0, or 6 with both as they were.
@@ -98,7 +97,7 @@ pub extern "C" fn ashlarkin_draw_records(
 ) -> u32
     ensures { λ n.
         ⌜ DrawsRecords
-        (callOf reading line x2 y2 x3 y3
+        (callOf reading line (record { x2 = x2; y2 = y2; x3 = x3; y3 = y3 })
         (now (vram .entry)) (now (palette .entry)) (now (oam .entry)) (now (registers .entry)))
         (now (entries .entry)) (now (output .entry)) n (now (entries .exit)) (now (output .exit)) ⌝ }
 {

@@ -1,5 +1,5 @@
 -- Lines of backgrounds and entries, by what tests find. No contract cites this file. Assumes nothing.
-use Prim.Native.Nat.{ℕ, zero, suc, _<_}
+use Prim.Native.Nat.{ℕ, zero, suc, _≤_, _<_}
 use mathlib.Core.Path.{_≡_, refl, sym, ap, ap₂, _∙_}
 use mathlib.Core.Bool.{Bool, true, false, cond, false≢true, and-eq-true-iff}
 use mathlib.Core.List.{List, [], _∷_, _++_, map, map-append, replicate}
@@ -12,10 +12,11 @@ use Rattle.rows.specs.Words.{wordCells}
 use Rattle.rows.proofs.Cells.{rowOf-cong}
 use Rattle.rows.proofs.Tab.{getD-of-tab, tab-replicate}
 use Rattle.regs.specs.Registers.{dispcnt}
-use Rattle.regs.specs.Display.{enableBg, enableObj}
-use Rattle.regs.specs.Reading.{readingOf}
+use Rattle.regs.specs.Display.{enableBg, DisplayControlOf}
+use Rattle.regs.specs.declared.DisplayControl.{DisplayControl}
+use Rattle.regs.specs.Reading.{readingOf, counted}
 use Rattle.regs.specs.declared.reading.Reading.{Reading}
-use Rattle.gpu_step.specs.References.{References}
+use Rattle.bg_points.specs.declared.references.References.{References}
 use Rattle.bg.specs.Background.{backgroundColor}
 use Rattle.memory.specs.Palette.{backdrop}
 use Rattle.obj_entries.specs.Entry.{entryCells}
@@ -46,16 +47,21 @@ module _ (vram palette registers : List ℕ) (references : References) (bg line 
 
 -- ---- the entries
 
-module _ (c : Call) (entries : List ℕ) where
-  pub entries-on : {left : List ℕ} {reading : Reading} → enableObj (dispcnt (c .memory .registers)) ≡ true
-      → reading ≡ readingOf (c .reading) → left ≡ putSprites reading (source (c .memory)) (c .line) entries
-      → left ≡ entriesAfter c entries
+module _ (c : Call) (entries : List ℕ) {d : DisplayControl} (d-is : DisplayControlOf (dispcnt (c .memory .registers)) d) where
+  pub entries-on : {left : List ℕ} {reading : Reading} → d .«enable_obj» ≡ true → reading ≡ readingOf (c .reading)
+      → left ≡ putSprites reading (source (c .memory)) (c .line) entries → left ≡ entriesAfter c entries
   unfolding entriesAfter
-  entries-on on reading-is left-is = rw (on, sym reading-is) left-is
+  entries-on on reading-is left-is = rw (sym (d-is .obj-is), on, sym reading-is) left-is
 
-  pub entries-off : enableObj (dispcnt (c .memory .registers)) ≡ false → entries ≡ entriesAfter c entries
+  pub entries-off : d .«enable_obj» ≡ false → entries ≡ entriesAfter c entries
   unfolding entriesAfter
-  entries-off off = rw off
+  entries-off off = rw (sym (d-is .obj-is), off)
+
+-- ---- the weights
+
+-- What a reading makes of EVY, the reading as it was read.
+pub evy-read : (r : Reading) (reading y : ℕ) → r ≡ readingOf reading → counted (readingOf reading) y ≤ 16 → counted r y ≤ 16
+evy-read r reading y r-is evy≤ = rw r-is evy≤
 
 -- ---- the backgrounds that are on
 
@@ -105,46 +111,34 @@ module _ (registers : List ℕ) (f g : ℕ → ℕ) (same : (bg : ℕ) → isOn 
 
 -- ---- the line
 
-module _ (c : Call) where
-  -- The line of a background, as code draws it.
-  unfoldable pub drawnLine : ℕ → List Rgb15
-  drawnLine bg =
-      tab
-      (λ column.
-      rgb
-      (colorIfOn (isOn (c .memory .registers) bg) (c .memory .vram) (c .memory .palette) (c .memory .registers) (c .references)
-      bg column (c .line)))
-      240
-
-  -- A line drawn by the switches that were read, its reference numbers given as equal ones.
-  pub drawnLine-is : {on : List Bool} {r : References} {line : List Rgb15} (bg : ℕ)
-      → on ≡ enableBg (dispcnt (c .memory .registers)) → r ≡ c .references
-      → line
+module _ (c : Call) {on : List Bool} (on-is : on ≡ enableBg (dispcnt (c .memory .registers))) where
+  -- The line of a background, as code draws it by the switches that it read.
+  abbrev Drawn : ℕ → List Rgb15 → Type 0
+  Drawn bg line =
+      line
       ≡ tab
       (λ column.
       rgb
-      (colorIfOn (getD on bg false) (c .memory .vram) (c .memory .palette) (c .memory .registers) r bg column (c .line)))
+      (colorIfOn (getD on bg false) (c .memory .vram) (c .memory .palette) (c .memory .registers) (c .references)
+      bg column (c .line)))
       240
-      → line ≡ drawnLine bg
-  unfolding drawnLine
-  drawnLine-is bg on-is r-is line-is = rw (on-is, r-is) at line-is
 
-  drawnLine-on : (bg : ℕ) {line : List Rgb15} → line ≡ drawnLine bg → isOn (c .memory .registers) bg ≡ true
+  drawn-on : (bg : ℕ) {line : List Rgb15} → Drawn bg line → isOn (c .memory .registers) bg ≡ true
       → (column : ℕ) → column < 240 → lineColor line column ≡ colorOf c bg column
-  unfolding drawnLine colorIfOn
-  drawnLine-on bg line-is on column column< =
+  unfolding colorIfOn
+  drawn-on bg line-is is column column< =
       ap (λ (a : Rgb15). a .0) (getD-of-tab _ 240 column (rgb 0) line-is column<)
-      ∙ rw on
+      ∙ rw (on-is, is)
 
-  module _ {line0 line1 line2 line3 : List Rgb15} (line0-is : line0 ≡ drawnLine 0) (line1-is : line1 ≡ drawnLine 1)
-      (line2-is : line2 ≡ drawnLine 2) (line3-is : line3 ≡ drawnLine 3) where
+  module _ {line0 line1 line2 line3 : List Rgb15} (line0-is : Drawn 0 line0) (line1-is : Drawn 1 line1)
+      (line2-is : Drawn 2 line2) (line3-is : Drawn 3 line3) where
     bgLine-on : (column : ℕ) → column < 240 → (bg : ℕ) → isOn (c .memory .registers) bg ≡ true
         → lineColor (bgLine line0 line1 line2 line3 bg) column ≡ colorOf c bg column
     unfolding bgLine
-    bgLine-on column column< zero on = drawnLine-on 0 line0-is on column column<
-    bgLine-on column column< (suc zero) on = drawnLine-on 1 line1-is on column column<
-    bgLine-on column column< (suc (suc zero)) on = drawnLine-on 2 line2-is on column column<
-    bgLine-on column column< (suc (suc (suc zero))) on = drawnLine-on 3 line3-is on column column<
+    bgLine-on column column< zero on = drawn-on 0 line0-is on column column<
+    bgLine-on column column< (suc zero) on = drawn-on 1 line1-is on column column<
+    bgLine-on column column< (suc (suc zero)) on = drawn-on 2 line2-is on column column<
+    bgLine-on column column< (suc (suc (suc zero))) on = drawn-on 3 line3-is on column column<
     bgLine-on column column< (suc (suc (suc (suc bg)))) on = absurd (false≢true on)
 
     -- The lines, composed, are the line.

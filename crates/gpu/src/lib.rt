@@ -1,20 +1,17 @@
 // The draw on numbers and bytes (gpu/mod.rs).
 ghost use mathlib.Core.Path.{_≡_};
-ghost use mathlib.Core.Bool.{true};
 ghost use lib.ListN.{length};
-ghost use Rattle.memory.specs.Sizes.{registersSize, outputSize};
-ghost use Prim.Native.Nat.{_<_};
+ghost use Rattle.memory.specs.Sizes.{outputSize};
 ghost use Rattle.rgb15.specs.Colour.{rgb};
 ghost use Rattle.rows.specs.Tab.{tab};
-ghost use Rattle.regs.specs.Display.{mode};
-ghost use Rattle.regs.specs.Registers.{dispcnt};
-ghost use Rattle.memory.specs.Code.{Lent};
-ghost use Rattle.gpu_step.specs.References.{inRanges};
+ghost use Rattle.bg.specs.Code.{Drawable};
 ghost use Rattle.gpu_judge.specs.Judge.{callOf};
+ghost use Rattle.gpu_judge.specs.Code.{Ready};
 ghost use Rattle.gpu.specs.Line.{entriesAfter, lineAfter, blankLine};
-ghost use Rattle.gpu.specs.Code.{Ready, colorIfOn};
+ghost use Rattle.gpu.specs.Code.{colorIfOn};
 ghost use Rattle.gpu.specs.Draw.{Draws};
 use bg::render_bg;
+use bg_points::References;
 use gpu_judge::Verdict;
 use gpu_judge::judge_draw;
 use memory::DISPLAY_WIDTH;
@@ -33,33 +30,24 @@ fn bg_line(
     vram: &[u8],
     palette: &[u8],
     registers: &[u8],
-    x2: i32,
-    y2: i32,
-    x3: i32,
-    y3: i32,
+    references: References,
     on: bool,
     bg: usize,
     line: usize,
-) -> [Rgb15; 240]
-    requires { ⌜ Lent (now vram) (now palette)
-        × (length (now registers) ≡ registersSize)
-        × (mode (dispcnt (now registers)) < 6)
-        × (inRanges (record { x2 = x2; y2 = y2; x3 = x3; y3 = y3 }) ≡ true)
-        × (bg < 4)
-        × (line < 160) ⌝ }
+) -> [Rgb15; DISPLAY_WIDTH]
+    requires { ⌜ Drawable (now vram) (now palette) (now registers) references bg line ⌝ }
     ensures { λ r.
         ⌜ r
         ≡ tab
         (λ column.
         rgb
-        (colorIfOn on (now (vram .entry)) (now (palette .entry)) (now (registers .entry))
-        (record { x2 = x2; y2 = y2; x3 = x3; y3 = y3 }) bg column line))
+        (colorIfOn on (now (vram .entry)) (now (palette .entry)) (now (registers .entry)) references bg column line))
         240 ⌝ }
 {
     if on {
-        render_bg(vram, palette, registers, x2, y2, x3, y3, bg, line)
+        render_bg(vram, palette, registers, references, bg, line)
     } else {
-        [Rgb15::TRANSPARENT; 240]
+        [Rgb15::TRANSPARENT; DISPLAY_WIDTH]
     }
 }
 
@@ -67,10 +55,7 @@ fn bg_line(
 fn render_line(
     reading: u32,
     line: u32,
-    x2: i32,
-    y2: i32,
-    x3: i32,
-    y3: i32,
+    references: References,
     vram: &[u8],
     palette: &[u8],
     oam: &[u8],
@@ -78,19 +63,19 @@ fn render_line(
     entries: &[u8],
     output: &mut [u8],
 )
-    requires { ⌜ Ready (callOf reading line x2 y2 x3 y3 (now vram) (now palette) (now oam) (now registers)) (now entries) (now output) ⌝ }
+    requires { ⌜ Ready (callOf reading line references (now vram) (now palette) (now oam) (now registers)) (now entries) (now output) ⌝ }
     ensures { λ _. ⌜ now (output .exit)
         ≡ lineAfter
-        (callOf reading line x2 y2 x3 y3
+        (callOf reading line references
         (now (vram .entry)) (now (palette .entry)) (now (oam .entry)) (now (registers .entry)))
         (now (entries .entry)) ⌝ }
 {
     let y = line as usize;
     let on = read_dispcnt(registers).enable_bg;
-    let line0 = bg_line(vram, palette, registers, x2, y2, x3, y3, on[0], 0, y);
-    let line1 = bg_line(vram, palette, registers, x2, y2, x3, y3, on[1], 1, y);
-    let line2 = bg_line(vram, palette, registers, x2, y2, x3, y3, on[2], 2, y);
-    let line3 = bg_line(vram, palette, registers, x2, y2, x3, y3, on[3], 3, y);
+    let line0 = bg_line(vram, palette, registers, references, on[0], 0, y);
+    let line1 = bg_line(vram, palette, registers, references, on[1], 1, y);
+    let line2 = bg_line(vram, palette, registers, references, on[2], 2, y);
+    let line3 = bg_line(vram, palette, registers, references, on[3], 3, y);
     finalize_scanline(
         output,
         entries,
@@ -109,10 +94,7 @@ fn render_line(
 fn update_objs(
     reading: u32,
     line: u32,
-    x2: i32,
-    y2: i32,
-    x3: i32,
-    y3: i32,
+    references: References,
     vram: &[u8],
     palette: &[u8],
     oam: &[u8],
@@ -120,10 +102,10 @@ fn update_objs(
     entries: &mut [u8],
     output: &[u8],
 )
-    requires { ⌜ Ready (callOf reading line x2 y2 x3 y3 (now vram) (now palette) (now oam) (now registers)) (now entries) (now output) ⌝ }
+    requires { ⌜ Ready (callOf reading line references (now vram) (now palette) (now oam) (now registers)) (now entries) (now output) ⌝ }
     ensures { λ _. ⌜ now (entries .exit)
         ≡ entriesAfter
-        (callOf reading line x2 y2 x3 y3
+        (callOf reading line references
         (now (vram .entry)) (now (palette .entry)) (now (oam .entry)) (now (registers .entry)))
         (now (entries .entry)) ⌝ }
 {
@@ -157,10 +139,7 @@ fn blank_line(output: &mut [u8])
 pub fn draw(
     reading: u32,
     line: u32,
-    x2: i32,
-    y2: i32,
-    x3: i32,
-    y3: i32,
+    references: References,
     vram: &[u8],
     palette: &[u8],
     oam: &[u8],
@@ -170,17 +149,14 @@ pub fn draw(
 ) -> u32
     ensures { λ n.
         ⌜ Draws
-        (callOf reading line x2 y2 x3 y3
+        (callOf reading line references
         (now (vram .entry)) (now (palette .entry)) (now (oam .entry)) (now (registers .entry)))
         (now (entries .entry)) (now (output .entry)) n (now (entries .exit)) (now (output .exit)) ⌝ }
 {
     let verdict = judge_draw(
         reading,
         line,
-        x2,
-        y2,
-        x3,
-        y3,
+        references,
         vram,
         palette,
         oam,
@@ -193,10 +169,7 @@ pub fn draw(
             update_objs(
                 reading,
                 line,
-                x2,
-                y2,
-                x3,
-                y3,
+                references,
                 vram,
                 palette,
                 oam,
@@ -207,10 +180,7 @@ pub fn draw(
             render_line(
                 reading,
                 line,
-                x2,
-                y2,
-                x3,
-                y3,
+                references,
                 vram,
                 palette,
                 oam,

@@ -12,7 +12,7 @@ use Rattle.gpu_judge.specs.Judge.{Call, haveLengths, verdict, numberOf}
 use Rattle.gpu.specs.Draw.{refused, given, draw, Draws}
 use Rattle.gpu_judge.specs.declared.Verdict.{Verdict}
 use Rattle.gpu_judge.specs.declared.Verdict.the-variants.{BadReading, BadLength}
-use Rattle.gpu_judge.proofs.Verdicts.{lengths-are}
+use Rattle.gpu_judge.proofs.Verdicts.{verdict-cases}
 use Rattle.gpu_records.specs.Entries.{rowBytes, recordsIn}
 use Rattle.gpu_records.specs.declared.entry.ObjBufferEntry.{ObjBufferEntry}
 use Rattle.gpu_records.proofs.Rows.{length-rowBytes}
@@ -24,16 +24,17 @@ use Rattle.gpu_draw_records.specs.declared.Drawn.{Drawn}
 
 module _ (c : Call) (entries output : List ℕ) where
   -- A draw that gives 0 has its registers.
-  pub registers-sized : draw c entries output .number ≡ 0 → length (c .memory .registers) ≡ registersSize
-  unfolding draw given verdict numberOf
-  registers-sized n = go (ltb 1 (c .reading)) (haveLengths (c .memory) entries output) refl _ n
-    where
-      go : (t u : Bool) → haveLengths (c .memory) entries output ≡ u → (rest : Verdict)
-          → given (cond t BadReading (cond (not u) BadLength rest)) c entries output .number ≡ 0
-          → length (c .memory .registers) ≡ registersSize
-      go true u sized rest n = absurd (omega arith)
-      go false false sized rest n = absurd (omega arith)
-      go false true sized rest n = lengths-are (c .memory) entries output sized .registers-is
+  pub registers-sized : {number : ℕ} {entriesLeft outputLeft : List ℕ}
+      → Draws c entries output number entriesLeft outputLeft → number ≡ 0 → length (c .memory .registers) ≡ registersSize
+  unfolding draw given numberOf
+  registers-sized drew zero-is =
+      verdict-cases c entries output
+      (λ v. given v c entries output .number ≡ 0 → length (c .memory .registers) ≡ registersSize)
+      (λ n. absurd (omega arith)) (λ n. absurd (omega arith)) (λ n. absurd (omega arith))
+      (λ _ lengths _. lengths .registers-is)
+      (λ n. absurd (omega arith)) (λ n. absurd (omega arith)) (λ n. absurd (omega arith)) (λ _ n. absurd (omega arith))
+      (λ _ ready _. ready .lengths .registers-is)
+      (sym (ap (λ d. d .number) drew) ∙ zero-is)
 
   -- A draw on a row of another length is refused, for its reading or for that.
   pub draw-length : (length entries ≡ 960 → ⊥) → draw c entries output ≡ refused (cond (ltb 1 (c .reading)) 1 2) entries output
@@ -85,19 +86,20 @@ module _ (c : Call) (records : List ObjBufferEntry) (output : List ℕ) where
       go false = refl
 
   -- The draw on values is the byte form's.
-  pub drawn-is : {number : ℕ} {writing : Bool} {row : List ObjBufferEntry} {entriesLeft outputLeft : List ℕ}
-      → Draws c (rowBytes records) output number entriesLeft outputLeft
+  pub drawn-is : {bytes : List ℕ} {number : ℕ} {writing : Bool} {row : List ObjBufferEntry} {entriesLeft outputLeft : List ℕ}
+      → bytes ≡ rowBytes records → Draws c bytes output number entriesLeft outputLeft
       → writing ≡ writes number (c .memory .registers) → row ≡ recordsIn entriesLeft
       → (_≡_ {A = Drawn} (record { number = number; writes = writing; row = row }) (drawnRow c records output))
       × (outputLeft ≡ draw c (rowBytes records) output .output)
   unfolding drawnRow
-  drawn-is drew writes-is row-is = (
-    rw (writes-is, row-is)
-        (ap
-        (λ d. record { number = d .number; writes = writes (d .number) (c .memory .registers); row = recordsIn (d .entries) })
-        drew),
-    ap (λ d. d .output) drew,
-  )
+  drawn-is bytes-are drew writes-is row-is =
+      let gave = rw bytes-are at drew in (
+        rw (writes-is, row-is)
+            (ap
+            (λ d. record { number = d .number; writes = writes (d .number) (c .memory .registers); row = recordsIn (d .entries) })
+            gave),
+        ap (λ d. d .output) gave,
+      )
 
   -- A row that isn't to be written stays, and one that is becomes what the draw made of it.
   pub draws-kept : drawnRow c records output .writes ≡ false

@@ -7,6 +7,7 @@ ghost use Rattle.gpu.specs.Draw.{draw};
 ghost use Rattle.gpu_records.specs.Entries.{rowBytes};
 ghost use Rattle.gpu_draw_records.specs.Draw.{writes};
 ghost use Rattle.gpu_draw_records.specs.Code.{rowRefusal, drawnRow};
+use bg_points::References;
 use gpu_records::ObjBufferEntry;
 use gpu_records::decode_row;
 use gpu_records::encode_row;
@@ -17,7 +18,7 @@ use regs::iodev::read_dispcnt;
 pub struct Drawn {
     pub number: u32,
     pub writes: bool,
-    pub row: [ObjBufferEntry; 240],
+    pub row: [ObjBufferEntry; DISPLAY_WIDTH],
 }
 
 // The refusal of a row of another length, in the draw's order, or 0.
@@ -48,7 +49,7 @@ fn does_write(number: u32, registers: &[u8]) -> bool
 
 // The draw on a row of 240.
 pub fn draw_row(
-    records: [ObjBufferEntry; 240],
+    records: [ObjBufferEntry; DISPLAY_WIDTH],
     reading: u32,
     line: u32,
     x2: i32,
@@ -64,12 +65,12 @@ pub fn draw_row(
     ensures { λ d.
         ⌜ (d
         ≡ drawnRow
-        (callOf reading line x2 y2 x3 y3
+        (callOf reading line (record { x2 = x2; y2 = y2; x3 = x3; y3 = y3 })
         (now (vram .entry)) (now (palette .entry)) (now (oam .entry)) (now (registers .entry)))
         records (now (output .entry)))
         × (now (output .exit)
         ≡ draw
-        (callOf reading line x2 y2 x3 y3
+        (callOf reading line (record { x2 = x2; y2 = y2; x3 = x3; y3 = y3 })
         (now (vram .entry)) (now (palette .entry)) (now (oam .entry)) (now (registers .entry)))
         (rowBytes records) (now (output .entry)) .output) ⌝ }
 {
@@ -77,10 +78,7 @@ pub fn draw_row(
     let number = gpu::draw(
         reading,
         line,
-        x2,
-        y2,
-        x3,
-        y3,
+        References { x2, y2, x3, y3 },
         vram,
         palette,
         oam,

@@ -4,13 +4,13 @@ use Prim.Native.Nat.{ℕ}
 use mathlib.Core.Bool.{Bool, cond, not, _&&_}
 use mathlib.Core.List.{List}
 use lib.Dec.{eqb, leb, ltb}
-use lib.IntN.{ℤ}
 use lib.ListN.{length}
 use Rattle.memory.specs.Memory.{Memory}
 use Rattle.memory.specs.Sizes.{videoRamSize, paletteRamSize, oamSize, registersSize, displayHeight, outputSize}
 use Rattle.regs.specs.Registers.{dispcnt, bldy}
 use Rattle.regs.specs.Display.{mode, forceBlank}
-use Rattle.gpu_step.specs.References.{References, inRanges}
+use Rattle.bg_points.specs.References.{inRanges}
+use Rattle.bg_points.specs.declared.references.References.{References}
 use Rattle.obj_entries.specs.Entry.{entriesSize, shapedRow}
 use Rattle.gpu_judge.specs.declared.Verdict.{Verdict}
 use Rattle.gpu_judge.specs.declared.Verdict.the-variants.{
@@ -33,24 +33,26 @@ pub record Call : Type 0 where
   pub memory : Memory
 
 -- A draw by what it is lent, in the order of its parameters.
-abbrev pub callOf : ℕ → ℕ → ℤ → ℤ → ℤ → ℤ → List ℕ → List ℕ → List ℕ → List ℕ → Call
-callOf reading line x2 y2 x3 y3 vram palette oam registers =
+abbrev pub callOf : ℕ → ℕ → References → List ℕ → List ℕ → List ℕ → List ℕ → Call
+callOf reading line references vram palette oam registers =
     record {
       reading = reading;
       line = line;
-      references = record { x2 = x2; y2 = y2; x3 = x3; y3 = y3 };
+      references = references;
       memory = record { vram = vram; palette = palette; oam = oam; registers = registers };
     }
 
--- Whether each buffer has its length.
-unfoldable pub haveLengths : Memory → List ℕ → List ℕ → Bool
-haveLengths m entries output =
+-- Whether each buffer of the memory has its length.
+abbrev pub memoryLengths : Memory → Bool
+memoryLengths m =
     eqb (length (m .vram)) videoRamSize
     && eqb (length (m .palette)) paletteRamSize
     && eqb (length (m .oam)) oamSize
     && eqb (length (m .registers)) registersSize
-    && eqb (length entries) entriesSize
-    && eqb (length output) outputSize
+
+-- Whether each buffer has its length.
+unfoldable pub haveLengths : Memory → List ℕ → List ℕ → Bool
+haveLengths m entries output = memoryLengths m && eqb (length entries) entriesSize && eqb (length output) outputSize
 
 -- Forced blank is off.
 abbrev pub blankOff : Call → Bool

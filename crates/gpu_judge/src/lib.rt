@@ -5,7 +5,7 @@ ghost use Rattle.memory.specs.Sizes.{registersSize};
 ghost use Rattle.obj_entries.specs.Entry.{entriesSize};
 ghost use Rattle.gpu_judge.specs.Judge.{callOf, haveLengths, verdict, numberOf};
 ghost use Rattle.gpu_judge.specs.Code.{lineVerdict};
-use gpu_step::in_ranges;
+use bg_points::References;
 use memory::DISPLAY_HEIGHT;
 use memory::OAM_SIZE;
 use memory::OUTPUT_SIZE;
@@ -81,20 +81,10 @@ fn have_lengths(
 }
 
 // The verdict of a draw that has its lengths and a line of the screen.
-fn judge_line(
-    reading: u32,
-    x2: i32,
-    y2: i32,
-    x3: i32,
-    y3: i32,
-    registers: &[u8],
-    entries: &[u8],
-) -> Verdict
+fn judge_line(reading: u32, references: References, registers: &[u8], entries: &[u8]) -> Verdict
     requires { ⌜ (length (now registers) ≡ registersSize) × (length (now entries) ≡ entriesSize) ⌝ }
     ensures { λ v.
-        ⌜ v
-        ≡ lineVerdict reading (record { x2 = x2; y2 = y2; x3 = x3; y3 = y3 })
-        (now (registers .entry)) (now (entries .entry)) ⌝ }
+        ⌜ v ≡ lineVerdict reading references (now (registers .entry)) (now (entries .entry)) ⌝ }
 {
     let dispcnt = read_dispcnt(registers);
     if dispcnt.force_blank {
@@ -106,7 +96,7 @@ fn judge_line(
     if (reading == 0) & (read_bldy(registers) > 16) {
         return Verdict::BadBldy;
     }
-    if !in_ranges(x2, y2, x3, y3) {
+    if !references.in_ranges() {
         return Verdict::BadReference;
     }
     if shaped_row(entries) {
@@ -120,10 +110,7 @@ fn judge_line(
 pub fn judge_draw(
     reading: u32,
     line: u32,
-    x2: i32,
-    y2: i32,
-    x3: i32,
-    y3: i32,
+    references: References,
     vram: &[u8],
     palette: &[u8],
     oam: &[u8],
@@ -134,7 +121,7 @@ pub fn judge_draw(
     ensures { λ v.
         ⌜ v
         ≡ verdict
-        (callOf reading line x2 y2 x3 y3
+        (callOf reading line references
         (now (vram .entry)) (now (palette .entry)) (now (oam .entry)) (now (registers .entry)))
         (now (entries .entry)) (now (output .entry)) ⌝ }
 {
@@ -147,5 +134,5 @@ pub fn judge_draw(
     if line >= LINES {
         return Verdict::BadLine;
     }
-    judge_line(reading, x2, y2, x3, y3, registers, entries)
+    judge_line(reading, references, registers, entries)
 }

@@ -2,23 +2,44 @@
 -- Assumes nothing.
 use Prim.Native.Nat.{ℕ}
 use mathlib.Core.Path.{_≡_, sym, ap, _∙_}
-use lib.IntN.{ℤ}
+use mir.Syntax.{w32}
+use mir.Val.{toZ, ofZ}
+use Rattle.bg_points.specs.declared.references.References.{References}
+use Rattle.bg_points.proofs.Ranges.{ranges-true}
+use Rattle.gpu_step.specs.declared.Steps.{Steps}
 use Rattle.gpu_step.specs.Step.{stepped, stepNumber, referencesAfter}
 use Rattle.gpu_step.specs.declared.Stepped.{Stepped}
+use Rattle.gpu_step.proofs.Added.{read-range}
+use Rattle.gpu_step.proofs.Answers.{stepped-ranges}
 use Rattle.gpu_records.specs.Step.{stepsOf, referencesOf, movedTo, stepRecords, StepsRecords}
 use Rattle.gpu_records.specs.declared.affine.BgAffine.{BgAffine}
 
-module _ (bg2 bg3 : BgAffine) where
-  pub steps-refused : stepped (stepsOf bg2 bg3) (referencesOf bg2 bg3) ≡ Stepped.Refused → StepsRecords bg2 bg3 6 bg2 bg3
-  unfolding stepRecords movedTo stepNumber referencesAfter
-  steps-refused e = rw e
+-- The steps s, the four numbers r and the answer a as code found them.
+module _ (bg2 bg3 : BgAffine) {s : Steps} {r : References} {a : Stepped} (s-is : s ≡ stepsOf bg2 bg3)
+    (r-is : r ≡ referencesOf bg2 bg3) (a-is : a ≡ stepped s r) where
+  asked : stepped (stepsOf bg2 bg3) (referencesOf bg2 bg3) ≡ a
+  asked = rw (sym s-is, sym r-is) (sym a-is)
 
-  pub steps-done : {left2 left3 : BgAffine} (x2 y2 x3 y3 : ℤ)
-      → stepped (stepsOf bg2 bg3) (referencesOf bg2 bg3) ≡ Stepped.To x2 y2 x3 y3
-      → left2 ≡ movedTo bg2 x2 y2 → left3 ≡ movedTo bg3 x3 y3
+  pub steps-refused : a ≡ Stepped.Refused → StepsRecords bg2 bg3 6 bg2 bg3
+  unfolding stepRecords movedTo stepNumber referencesAfter
+  steps-refused found = rw (asked ∙ found)
+
+  pub steps-done : {left2 left3 : BgAffine} (to : References) → a ≡ Stepped.To to
+      → left2 ≡ movedTo bg2 (toZ w32 (ofZ w32 (to .x2))) (toZ w32 (ofZ w32 (to .y2)))
+      → left3 ≡ movedTo bg3 (toZ w32 (ofZ w32 (to .x3))) (toZ w32 (ofZ w32 (to .y3)))
       → StepsRecords bg2 bg3 0 left2 left3
   unfolding stepRecords stepNumber referencesAfter
-  steps-done x2 y2 x3 y3 e left2-is left3-is = rw (e, left2-is, left3-is)
+  steps-done to found left2-is left3-is =
+      let all = ranges-true to (stepped-ranges s r (sym a-is ∙ found)) in
+      rw (
+        asked ∙ found,
+        left2-is,
+        left3-is,
+        read-range _ (all .x2-in),
+        read-range _ (all .y2-in),
+        read-range _ (all .x3-in),
+        read-range _ (all .y3-in),
+      )
 
 -- A record and a number that satisfy the contract are the only ones.
 pub steps-once : (bg2 bg3 : BgAffine) {m n : ℕ} {a2 a3 b2 b3 : BgAffine}

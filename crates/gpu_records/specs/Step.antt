@@ -3,8 +3,9 @@
 use Prim.Native.Nat.{ℕ}
 use mathlib.Core.Path.{_≡_}
 use lib.IntN.{ℤ}
-use Rattle.gpu_step.specs.References.{References}
-use Rattle.gpu_step.specs.Step.{Steps, stepped, stepNumber, referencesAfter}
+use Rattle.bg_points.specs.declared.references.References.{References}
+use Rattle.gpu_step.specs.declared.Steps.{Steps}
+use Rattle.gpu_step.specs.Step.{stepped, stepNumber, referencesAfter}
 use Rattle.gpu_records.specs.declared.affine.BgAffine.{BgAffine}
 use Rattle.gpu_records.specs.declared.affine.PairStep.{PairStep}
 

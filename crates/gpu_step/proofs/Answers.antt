@@ -6,39 +6,36 @@ use mathlib.Core.Bool.{Bool, true, false, cond, _&&_}
 use mathlib.Core.List.{List}
 use lib.IntN.{ℤ}
 use lib.ListN.{length, getD}
+use mir.Syntax.{w32}
+use mir.Val.{toZ, ofZ}
 use borrow.Author.Tests.{eq-eqb, ne-eqb}
 use Rattle.signed.specs.Signed.{word32}
 use Rattle.rows.specs.Cells.{putCell, mapRow}
 use Rattle.rows.specs.Words.{wordCells}
 use Rattle.rows.proofs.Cells.{putAll-all}
-use Rattle.gpu_step.specs.References.{References, inRanges}
-use Rattle.gpu_step.specs.Step.{Steps, referencesSize, referenceAt, referencesIn, wordsOf, bytesOf, sums, stepped, stepNumber, referencesAfter}
+use Rattle.bg_points.specs.References.{inRanges}
+use Rattle.bg_points.proofs.Ranges.{ranges-true}
+use Rattle.bg_points.specs.declared.references.References.{References}
+use Rattle.gpu_step.specs.declared.Steps.{Steps}
+use Rattle.gpu_step.specs.Step.{referencesSize, referenceAt, referencesIn, wordsOf, bytesOf, sums, stepped, stepNumber, referencesAfter}
 use Rattle.gpu_step.specs.Step.{bytesAfter, step, StepsTo}
 use Rattle.gpu_step.specs.declared.Stepped.{Stepped}
-use Rattle.gpu_step.proofs.Ranges.{references-are}
-
--- Steps are equal by their fields.
-pub steps-are : {pb2 pd2 pb3 pd3 qb2 qd2 qb3 qd3 : ℤ} → pb2 ≡ qb2 → pd2 ≡ qd2 → pb3 ≡ qb3 → pd3 ≡ qd3
-    → _≡_ {A = Steps} (record { pb2 = pb2; pd2 = pd2; pb3 = pb3; pd3 = pd3 }) (record { pb2 = qb2; pd2 = qd2; pb3 = qb3; pd3 = qd3 })
-steps-are e2 f2 e3 f3 = rw (e2, f2, e3, f3)
+use Rattle.gpu_step.proofs.Added.{read-range}
 
 -- The four numbers read one by one are those of the bytes.
 pub referencesIn-is : (bytes : List ℕ) {x2 y2 x3 y3 : ℤ} → x2 ≡ referenceAt bytes 0 → y2 ≡ referenceAt bytes 1
     → x3 ≡ referenceAt bytes 2 → y3 ≡ referenceAt bytes 3
     → record { x2 = x2; y2 = y2; x3 = x3; y3 = y3 } ≡ referencesIn bytes
 unfolding referencesIn
-referencesIn-is bytes e2 f2 e3 f3 = references-are e2 f2 e3 f3
+referencesIn-is bytes e2 f2 e3 f3 = rw (e2, f2, e3, f3)
 
 -- What is stepped to is in range.
-pub stepped-ranges : (s : Steps) (r : References) {x2 y2 x3 y3 : ℤ} → stepped s r ≡ Stepped.To x2 y2 x3 y3
-    → inRanges (record { x2 = x2; y2 = y2; x3 = x3; y3 = y3 }) ≡ true
+pub stepped-ranges : (s : Steps) (r : References) {to : References} → stepped s r ≡ Stepped.To to → inRanges to ≡ true
 unfolding stepped stepNumber referencesAfter
 stepped-ranges s r e = go (inRanges r) (inRanges (sums s r)) refl e
   where
-    go : {x2 y2 x3 y3 : ℤ} (t u : Bool) → inRanges (sums s r) ≡ u
-        → cond (t && u) (Stepped.To (sums s r .x2) (sums s r .y2) (sums s r .x3) (sums s r .y3)) Stepped.Refused
-        ≡ Stepped.To x2 y2 x3 y3
-        → inRanges (record { x2 = x2; y2 = y2; x3 = x3; y3 = y3 }) ≡ true
+    go : {to : References} (t u : Bool) → inRanges (sums s r) ≡ u
+        → cond (t && u) (Stepped.To (sums s r)) Stepped.Refused ≡ Stepped.To to → inRanges to ≡ true
     go true true u-is same = sym (ap (λ a. inRanges (referencesAfter a r)) same) ∙ u-is
     go true false u-is same = absurd (let n : _≡_ {A = ℕ} 6 0 = ap stepNumber same in omega arith)
     go false u u-is same = absurd (let n : _≡_ {A = ℕ} 6 0 = ap stepNumber same in omega arith)
@@ -53,18 +50,29 @@ module _ (s : Steps) (bytes : List ℕ) where
     unfolding step bytesAfter stepNumber
     step-refused e = rw (eq-eqb (length bytes) referencesSize l, e)
 
-    pub step-done : {left : List ℕ} (x2 y2 x3 y3 : ℤ) → stepped s (referencesIn bytes) ≡ Stepped.To x2 y2 x3 y3
-        → left ≡ bytesOf (record { x2 = x2; y2 = y2; x3 = x3; y3 = y3 }) → StepsTo s bytes 0 left
+    pub step-done : {left : List ℕ} {to : References} → stepped s (referencesIn bytes) ≡ Stepped.To to → left ≡ bytesOf to
+        → StepsTo s bytes 0 left
     unfolding step bytesAfter stepNumber
-    step-done x2 y2 x3 y3 e left-is = rw (eq-eqb (length bytes) referencesSize l, e, left-is)
+    step-done e left-is = rw (eq-eqb (length bytes) referencesSize l, e, left-is)
 
--- Four numbers put one after another are the bytes of the four.
-pub bytesOf-puts : (r : References) (l : List ℕ) {l1 l2 l3 l4 : List ℕ} → length l ≡ referencesSize
-    → l1 ≡ putCell wordCells l 0 (word32 (r .x2))
-    → l2 ≡ putCell wordCells l1 1 (word32 (r .y2))
-    → l3 ≡ putCell wordCells l2 2 (word32 (r .x3))
-    → l4 ≡ putCell wordCells l3 3 (word32 (r .y3))
+-- Four numbers in range put one after another are the bytes of the four.
+pub bytesOf-puts : (r : References) (l : List ℕ) {l1 l2 l3 l4 : List ℕ} → length l ≡ referencesSize → inRanges r ≡ true
+    → l1 ≡ putCell wordCells l 0 (word32 (toZ w32 (ofZ w32 (r .x2))))
+    → l2 ≡ putCell wordCells l1 1 (word32 (toZ w32 (ofZ w32 (r .y2))))
+    → l3 ≡ putCell wordCells l2 2 (word32 (toZ w32 (ofZ w32 (r .x3))))
+    → l4 ≡ putCell wordCells l3 3 (word32 (toZ w32 (ofZ w32 (r .y3))))
     → l4 ≡ bytesOf r
 unfolding bytesOf mapRow
-bytesOf-puts r l l-is e1 e2 e3 e4 =
-    rw (e4, e3, e2, e1) (putAll-all wordCells (λ k. getD (wordsOf r) k 0) 4 l l-is)
+bytesOf-puts r l l-is h e1 e2 e3 e4 =
+    let all = ranges-true r h in
+    rw (
+      e4,
+      e3,
+      e2,
+      e1,
+      read-range _ (all .x2-in),
+      read-range _ (all .y2-in),
+      read-range _ (all .x3-in),
+      read-range _ (all .y3-in),
+    )
+    (putAll-all wordCells (λ k. getD (wordsOf r) k 0) 4 l l-is)

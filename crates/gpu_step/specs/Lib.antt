@@ -1,3 +1,2 @@
--- What the reference numbers are, and what the line-end step gives. Assumes nothing.
-pub mod References
+-- What the line-end step gives. Assumes nothing.
 pub mod Step

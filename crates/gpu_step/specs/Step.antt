@@ -11,15 +11,10 @@ use Rattle.signed.specs.Signed.{signed32, word32}
 use Rattle.rows.specs.Answer.{Answer}
 use Rattle.rows.specs.Cells.{cellAt, rowOf}
 use Rattle.rows.specs.Words.{wordCells}
-use Rattle.gpu_step.specs.References.{References, inRanges}
+use Rattle.bg_points.specs.References.{inRanges}
+use Rattle.bg_points.specs.declared.references.References.{References}
+use Rattle.gpu_step.specs.declared.Steps.{Steps}
 use Rattle.gpu_step.specs.declared.Stepped.{Stepped}
-
--- pb and pd of both backgrounds.
-pub record Steps : Type 0 where
-  pub pb2 : ℤ
-  pub pd2 : ℤ
-  pub pb3 : ℤ
-  pub pd3 : ℤ
 
 -- It adds pb to x and pd to y for both.
 unfoldable pub sums : Steps → References → References
@@ -30,17 +25,17 @@ sums s r =
 unfoldable pub stepped : Steps → References → Stepped
 stepped s r =
     let to = sums s r in
-    cond (inRanges r && inRanges to) (Stepped.To (to .x2) (to .y2) (to .x3) (to .y3)) Stepped.Refused
+    cond (inRanges r && inRanges to) (Stepped.To to) Stepped.Refused
 
 -- The number of each answer.
 unfoldable pub stepNumber : Stepped → ℕ
 stepNumber Stepped.Refused = 6
-stepNumber (Stepped.To x2 y2 x3 y3) = 0
+stepNumber (Stepped.To to) = 0
 
 -- The four reference numbers after each answer; a refusal leaves them unchanged.
 unfoldable pub referencesAfter : Stepped → References → References
 referencesAfter Stepped.Refused r = r
-referencesAfter (Stepped.To x2 y2 x3 y3) r = record { x2 = x2; y2 = y2; x3 = x3; y3 = y3 }
+referencesAfter (Stepped.To to) r = to
 
 -- The four lie in 16 bytes, in the draw's order, little-endian.
 abbrev pub referencesSize : ℕ
@@ -66,7 +61,7 @@ bytesOf r = rowOf wordCells (λ k. getD (wordsOf r) k 0) 4
 -- The lent bytes after each answer; a refusal leaves them unchanged.
 unfoldable pub bytesAfter : Stepped → List ℕ → List ℕ
 bytesAfter Stepped.Refused bytes = bytes
-bytesAfter (Stepped.To x2 y2 x3 y3) bytes = bytesOf (record { x2 = x2; y2 = y2; x3 = x3; y3 = y3 })
+bytesAfter (Stepped.To to) bytes = bytesOf to
 
 -- What the step on lent bytes gives; another length gives 2, tested before 6.
 unfoldable pub step : Steps → List ℕ → Answer

@@ -7,12 +7,12 @@ ghost use lib.ListN.{length};
 ghost use Rattle.rows.specs.Cells.{cellAt, putCell};
 ghost use Rattle.rows.specs.Words.{wordCells};
 ghost use Rattle.signed.specs.Signed.{inRange, signed32, word32};
-ghost use Rattle.gpu_step.specs.References.{inRanges};
-ghost use Rattle.gpu_step.specs.Step.{referencesSize, bytesOf, stepped, StepsTo};
+ghost use Rattle.bg_points.specs.References.{inRanges};
+ghost use Rattle.gpu_step.specs.Step.{referencesSize, referencesIn, bytesOf, sums, stepped, StepsTo};
+use bg_points::References;
 use rows::put_word;
 use rows::word_at;
 use signed::drop_word;
-use signed::in_range;
 use signed::lift_i32;
 
 // The four numbers in bytes.
@@ -24,17 +24,18 @@ const SIGN: u32 = 0x8000_0000;
 // The lowest number of 32 bits.
 const LOWEST: i32 = -0x7fff_ffff - 1;
 
-// What the step gives: nothing, or the four reference numbers x2, y2, x3, y3.
-pub enum Stepped {
-    Refused,
-    To(i32, i32, i32, i32),
+// pb and pd of both backgrounds, which a line adds to x and y.
+pub struct Steps {
+    pub pb2: i16,
+    pub pd2: i16,
+    pub pb3: i16,
+    pub pd3: i16,
 }
 
-// Whether each reference number is in range.
-pub fn in_ranges(x2: i32, y2: i32, x3: i32, y3: i32) -> bool
-    ensures { λ t. ⌜ t ≡ inRanges (record { x2 = x2; y2 = y2; x3 = x3; y3 = y3 }) ⌝ }
-{
-    in_range(x2) & in_range(y2) & in_range(x3) & in_range(y3)
+// What the step gives: nothing, or the four reference numbers.
+pub enum Stepped {
+    Refused,
+    To(References),
 }
 
 // A reference number and what a line adds to it.
@@ -45,30 +46,28 @@ fn sum(reference: i32, by: i16) -> i32
     reference + by as i32
 }
 
-// The step on numbers: pb is added to x and pd to y, for both backgrounds or not at all.
-pub fn step_references(
-    pb2: i16,
-    pd2: i16,
-    pb3: i16,
-    pd3: i16,
-    x2: i32,
-    y2: i32,
-    x3: i32,
-    y3: i32,
-) -> Stepped
-    ensures { λ s.
-        ⌜ s
-        ≡ stepped (record { pb2 = pb2; pd2 = pd2; pb3 = pb3; pd3 = pd3 }) (record { x2 = x2; y2 = y2; x3 = x3; y3 = y3 }) ⌝ }
+// The four sums.
+fn sums(steps: Steps, references: References) -> References
+    requires { ⌜ inRanges references ≡ true ⌝ }
+    ensures { λ to. ⌜ to ≡ sums steps references ⌝ }
 {
-    if !in_ranges(x2, y2, x3, y3) {
+    let x2 = sum(references.x2, steps.pb2);
+    let y2 = sum(references.y2, steps.pd2);
+    let x3 = sum(references.x3, steps.pb3);
+    let y3 = sum(references.y3, steps.pd3);
+    References { x2, y2, x3, y3 }
+}
+
+// The step on numbers, for both backgrounds or not at all.
+pub fn step_references(steps: Steps, references: References) -> Stepped
+    ensures { λ s. ⌜ s ≡ stepped steps references ⌝ }
+{
+    if !references.in_ranges() {
         return Stepped::Refused;
     }
-    let to_x2 = sum(x2, pb2);
-    let to_y2 = sum(y2, pd2);
-    let to_x3 = sum(x3, pb3);
-    let to_y3 = sum(y3, pd3);
-    if in_ranges(to_x2, to_y2, to_x3, to_y3) {
-        Stepped::To(to_x2, to_y2, to_x3, to_y3)
+    let to = sums(steps, references);
+    if to.in_ranges() {
+        Stepped::To(to)
     } else {
         Stepped::Refused
     }
@@ -93,6 +92,18 @@ fn reference_at(references: &[u8], k: usize) -> i32
     signed_word(word_at(references, k))
 }
 
+// The lent four.
+fn references_in(references: &[u8]) -> References
+    requires { ⌜ length (now references) ≡ referencesSize ⌝ }
+    ensures { λ r. ⌜ r ≡ referencesIn (now (references .entry)) ⌝ }
+{
+    let x2 = reference_at(references, 0);
+    let y2 = reference_at(references, 1);
+    let x3 = reference_at(references, 2);
+    let y3 = reference_at(references, 3);
+    References { x2, y2, x3, y3 }
+}
+
 // Number k of the lent four set to z.
 fn put_reference(references: &mut [u8], k: usize, z: i32)
     requires { ⌜ (4 * k + 4 ≤ length (now references)) × (inRange z ≡ true) ⌝ }
@@ -102,33 +113,28 @@ fn put_reference(references: &mut [u8], k: usize, z: i32)
 }
 
 // The lent four set to numbers in range.
-fn put_references(references: &mut [u8], x2: i32, y2: i32, x3: i32, y3: i32)
-    requires { ⌜ (length (now references) ≡ referencesSize) × (inRanges (record { x2 = x2; y2 = y2; x3 = x3; y3 = y3 }) ≡ true) ⌝ }
-    ensures { λ _. ⌜ now (references .exit) ≡ bytesOf (record { x2 = x2; y2 = y2; x3 = x3; y3 = y3 }) ⌝ }
+fn put_references(references: &mut [u8], to: References)
+    requires { ⌜ (length (now references) ≡ referencesSize) × (inRanges to ≡ true) ⌝ }
+    ensures { λ _. ⌜ now (references .exit) ≡ bytesOf to ⌝ }
 {
-    put_reference(references, 0, x2);
-    put_reference(references, 1, y2);
-    put_reference(references, 2, x3);
-    put_reference(references, 3, y3);
+    put_reference(references, 0, to.x2);
+    put_reference(references, 1, to.y2);
+    put_reference(references, 2, to.x3);
+    put_reference(references, 3, to.y3);
 }
 
 // The step on lent bytes, little-endian, in the draw's order: 0, or 2 for another length, or 6.
-pub fn step(pb2: i16, pd2: i16, pb3: i16, pd3: i16, references: &mut [u8]) -> u32
-    ensures { λ n.
-        ⌜ StepsTo (record { pb2 = pb2; pd2 = pd2; pb3 = pb3; pd3 = pd3 }) (now (references .entry)) n (now (references .exit)) ⌝ }
+pub fn step(steps: Steps, references: &mut [u8]) -> u32
+    ensures { λ n. ⌜ StepsTo steps (now (references .entry)) n (now (references .exit)) ⌝ }
 {
     if references.len() != REFERENCES_SIZE {
         return 2;
     }
-    let x2 = reference_at(references, 0);
-    let y2 = reference_at(references, 1);
-    let x3 = reference_at(references, 2);
-    let y3 = reference_at(references, 3);
-    let to = step_references(pb2, pd2, pb3, pd3, x2, y2, x3, y3);
-    match to {
+    let answer = step_references(steps, references_in(references));
+    match answer {
         Stepped::Refused => 6,
-        Stepped::To(to_x2, to_y2, to_x3, to_y3) => {
-            put_references(references, to_x2, to_y2, to_x3, to_y3);
+        Stepped::To(to) => {
+            put_references(references, to);
             0
         }
     }

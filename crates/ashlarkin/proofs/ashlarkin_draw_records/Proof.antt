@@ -291,7 +291,7 @@ module _ {M : Type 1} (𝓤 : URA M) (H : Heap 𝓤) (A : Atoms 𝓤) (W : Given
 
   -- The draw that is asked for, its refusal for the row's length, what it makes of the row, and its output.
   abbrev asked : Call
-  asked = callOf reading line x2 y2 x3 y3 l-vram l-palette l-oam l-registers
+  asked = callOf reading line (record { x2 = x2; y2 = y2; x3 = x3; y3 = y3 }) l-vram l-palette l-oam l-registers
 
   abbrev N : ℕ
   N = rowRefusal reading (length l-row)

@@ -1,10 +1,9 @@
 -- ashlarkin::ashlarkin_step meets its contract, which is the step's.
 -- Assumes nothing.
 use mathlib.Core.Path.{ap, _∙_}
-use mir.Facts.{toZ-ofZ}
 use borrow.Author.Needs.{needs}
 use Rattle.gpu_step.specs.Step.{step}
-use Rattle.gpu_step.proofs.Answers.{steps-are}
+use Rattle.gpu_step.proofs.Machine.{steps-read}
 use Rattle.ashlarkin.proofs.ashlarkin_step.Statement.{statement}
 use Rattle.ashlarkin.proofs.ashlarkin_step.Tie as tie
 
@@ -15,7 +14,7 @@ returns c =
     let fits = start .fits in
     stepped .step .ensures
     ∙ ap (λ s. step s (start .args .references .now))
-    (steps-are (toZ-ofZ (fits .pb2)) (toZ-ofZ (fits .pd2)) (toZ-ofZ (fits .pb3)) (toZ-ofZ (fits .pd3)))
+    (steps-read _ (fits .pb2 .sfits) (fits .pd2 .sfits) (fits .pb3 .sfits) (fits .pd3 .sfits))
 
 pub ashlarkin-step-spec : {M : Type 1} → statement M
 ashlarkin-step-spec = tie.close (tie.spec (search needs) (search needs) returns)

@@ -7,19 +7,11 @@ use Rattle.gpu_draw_records.specs.Draw.{writes}
 use Rattle.gpu_draw_records.proofs.does_write.Statement.{statement}
 use Rattle.gpu_draw_records.proofs.does_write.Tie as tie
 
-read-dispcnt-requires : tie.Need-read-dispcnt-requires
-read-dispcnt-requires c κs = c .before .before .pre (c .if1 .taken)
-
-returns : tie.Need-returns
-unfolding writes
-returns c =
-    let read = c .before in
-    let taken = read .before in
-    rw (eq-eqb _ _ (taken .if1 .taken)) (ap not (read .read-dispcnt .ensures .blank-is))
-
-returns-2 : tie.Need-returns-2
-unfolding writes
-returns-2 c = rw (ne-eqb _ _ (c .if1 .left))
-
 pub does-write-spec : {M : Type 1} → statement M
-does-write-spec = tie.close (tie.spec read-dispcnt-requires returns returns-2)
+unfolding writes
+does-write-spec =
+    tie.close
+    (tie.spec
+    (λ c κs. c .before .before .pre (c .if1 .taken))
+    (λ c. rw (eq-eqb _ _ (c .before .before .if1 .taken)) (ap not (c .before .read-dispcnt .ensures .blank-is)))
+    (λ c. rw (ne-eqb _ _ (c .if1 .left))))

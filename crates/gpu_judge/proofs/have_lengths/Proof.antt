@@ -5,9 +5,6 @@ use Rattle.gpu_judge.specs.Judge.{haveLengths}
 use Rattle.gpu_judge.proofs.have_lengths.Statement.{statement}
 use Rattle.gpu_judge.proofs.have_lengths.Tie as tie
 
-returns : tie.Need-returns
-unfolding haveLengths
-returns c = search needs
-
 pub have-lengths-spec : {M : Type 1} → statement M
-have-lengths-spec = tie.close (tie.spec returns)
+unfolding haveLengths
+have-lengths-spec = tie.close (tie.spec (search needs))

@@ -10,7 +10,7 @@ use mir.Facts.{toZ-ofZ, toZ-pos}
 use borrow.Author.Needs.{needs}
 use Rattle.signed.proofs.Order.{mag-subℕ}
 use Rattle.signed.proofs.Words.{signed32-low}
-use Rattle.gpu_step.proofs.Sums.{signed32-less}
+use Rattle.gpu_step.proofs.Added.{signed32-less}
 use Rattle.gpu_step.proofs.signed_word.Statement.{statement}
 use Rattle.gpu_step.proofs.signed_word.Tie as tie
 

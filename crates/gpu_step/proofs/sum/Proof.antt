@@ -5,7 +5,7 @@ use lib.IntN.{_+ℤ_}
 use mir.Syntax.{w16, w32}
 use mir.Val.{toZ, ofZ}
 use mir.Facts.{toZ-ofZ, sfits-widen}
-use Rattle.gpu_step.proofs.Sums.{mag-sum}
+use Rattle.gpu_step.proofs.Added.{mag-sum}
 use Rattle.gpu_step.proofs.sum.Statement.{statement}
 use Rattle.gpu_step.proofs.sum.Tie as tie
 
