@@ -63,6 +63,10 @@ pub tally-none : (f : ℕ → ℕ) → 0 ≡ tally f 0
 unfolding tally
 tally-none f = refl
 
+pub tally-more : (f : ℕ → ℕ) (n : ℕ) {s a : ℕ} → s ≡ tally f n → a ≡ f n → s + a ≡ tally f (n + 1)
+unfolding tally
+tally-more f n p q = ap₂ _+_ p q ∙ ap (tally f) (sym (add-one n))
+
 pub tally-cong : (f g : ℕ → ℕ) (n : ℕ) → ((k : ℕ) → k < n → f k ≡ g k) → tally f n ≡ tally g n
 unfolding tally
 tally-cong f g zero h = refl

@@ -2,12 +2,8 @@
 -- cites this file. Assumes nothing.
 use Prim.Native.Nat.{ℕ, _+_, _-_, _*_, _<_}
 use native.Mathlib.Omega.{arith}
-use mir.Syntax.{w32, w64}
+use mir.Syntax.{w64}
 use mir.Val.{Fits}
-
--- A column is small, in a number of 32 bits too.
-pub column-fits : {column : ℕ} → column < 240 → Fits w32 column
-column-fits lt = omega arith
 
 -- Where its halfword and its word lie in their rows.
 pub halves-fit : {column : ℕ} → column < 240 → Fits w64 (column * 2)

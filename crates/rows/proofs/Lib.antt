@@ -23,5 +23,6 @@ pub mod Cells
 pub mod Columns
 pub mod Passed
 pub mod Tab
+pub mod Sums
 pub mod Tabbed
 pub mod Words

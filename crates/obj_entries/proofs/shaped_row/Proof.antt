@@ -4,7 +4,7 @@ use Prim.Native.Nat.{_-_}
 use mathlib.Core.Path.{ap, _∙_}
 use lib.Dec.{eqb}
 use borrow.Author.Needs.{needs}
-use Rattle.rows.proofs.Tested.{Summed, summed-none, summed-more, summed-all}
+use Rattle.rows.proofs.Sums.{Summed, summed-none, summed-more, summed-all}
 use Rattle.obj_entries.proofs.Entries.{entry-of-word, faultAt, shapedRow-faults}
 use Rattle.obj_entries.proofs.shaped_row.Statement.{statement}
 use Rattle.obj_entries.proofs.shaped_row.Tie as tie

@@ -5,7 +5,7 @@ use mathlib.Core.Path.{refl}
 use native.Mathlib.Omega.{arith}
 use lib.ListN.{getD}
 use Rattle.bits.specs.Bits.{bits}
-use Rattle.rows.proofs.Tested.{Summed, summed-none, summed-more, summed-all}
+use Rattle.rows.proofs.Sums.{Summed, summed-none, summed-more, summed-all}
 use Rattle.sfx_layers.specs.Code.{semiBit}
 use Rattle.sfx.proofs.Turns.{columns}
 use Rattle.sfx.proofs.count_semi.Statement.{statement}
