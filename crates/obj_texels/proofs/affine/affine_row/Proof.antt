@@ -4,7 +4,6 @@ use Prim.Native.Nat.{_-_}
 use native.Mathlib.Omega.{arith}
 use mathlib.Core.Path.{ap, _∙_}
 use lib.ListN.{length-replicate}
-use borrow.Author.Needs.{needs}
 use Rattle.rgb15.specs.Colour.{rgb, transparent}
 use Rattle.rows.proofs.Tabbed.{MappedPart, mapped-from, mapped-inside, mapped-to}
 use Rattle.obj_texels.specs.Code.{pointColor}

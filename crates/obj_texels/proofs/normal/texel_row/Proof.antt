@@ -1,10 +1,9 @@
 -- obj_texels::normal::texel_row meets its contract: a turn sets the eight columns of one tile, and the others stay transparent.
 -- Assumes nothing.
-use Prim.Native.Nat.{ℕ, _+_, _-_, _*_, _/_, _%_, _≤_, _<_}
+use Prim.Native.Nat.{_-_, _≤_}
 use native.Mathlib.Omega.{arith}
-use mathlib.Core.Path.{_≡_, sym, ap, _∙_}
+use mathlib.Core.Path.{sym, ap, _∙_}
 use lib.ListN.{length-replicate, getD-replicate}
-use borrow.Author.Needs.{needs}
 use Rattle.rgb15.specs.Colour.{rgb, transparent}
 use Rattle.rows.proofs.Tiles.{TilesSet, tilesSet-none, tilesSet-more, tilesSet-all}
 use Rattle.obj_texels.specs.Code.{rowTexel}
