@@ -1,6 +1,6 @@
 // Bitmap backgrounds, of modes 3 to 5 (gpu/render/bitmap.rs), as one routine: they differ in size, page and pixel.
 ghost use mathlib.Core.Path.{_≡_};
-ghost use Prim.Native.Nat.{_+_, _*_, _≤_, _<_};
+ghost use Prim.Native.Nat.{_≤_, _<_};
 ghost use Rattle.rgb15.specs.Colour.{rgb};
 ghost use Rattle.rows.specs.Tab.{tab};
 ghost use Rattle.bg_points.specs.Code.{coordinate};

@@ -1,11 +1,21 @@
 -- Laws of four reference numbers. No contract cites this file. Assumes nothing.
+use Prim.Native.Nat.{_^_, _<_}
 use mathlib.Core.Path.{_≡_}
 use mathlib.Core.Bool.{Bool, true, _&&_}
 use lib.IntN.{ℤ}
+use mir.Syntax.{w32}
+use lib.Signed.{mag}
+use mir.Val.{toZ, ofZ}
+use mir.Facts.{toZ-ofZ}
+use borrow.Author.Needs.{sfits-of}
 use Rattle.signed.specs.Signed.{inRange}
 use Rattle.bits.proofs.Booleans.{and-both}
 use Rattle.bg_points.specs.References.{inRanges}
 use Rattle.bg_points.specs.declared.references.References.{References}
+
+-- A signed field of a record is what is read back from its word.
+pub field-kept : {z : ℤ} → mag z < 2 ^ 31 → toZ w32 (ofZ w32 z) ≡ z
+field-kept fits = toZ-ofZ {w = w32} (sfits-of fits)
 
 -- The four tests of a draw's reference numbers together.
 pub ranges-are : {t2 u2 t3 u3 : Bool} (r : References)

@@ -4,19 +4,20 @@ ghost use mathlib.Core.Bool.{_&&_};
 ghost use Prim.Native.Nat.{_/_, _<_, _^_};
 ghost use lib.IntN.{pos, subℕ, _+ℤ_, _*ℤ_};
 ghost use Rattle.signed.specs.Signed.{down256, wrapped, within};
-ghost use Rattle.bg_points.specs.Code.{coordinate, Side};
+ghost use Rattle.bg_points.specs.Code.{coordinate, Side, LiftedPoint};
 ghost use Rattle.bg_points.specs.Point.{shows};
 
 mod references;
 
 pub use references::References;
 use signed::HALF_BIAS;
+use signed::REFERENCE_BIAS;
 
 // What a number is larger by than the coordinate that it stands for: a multiple of every side.
-const POINT_BIAS: u32 = 0x1e_0000;
+const BG_POINT_BIAS: u32 = 0x1e_0000;
 
 // 256 times the bias, less the bias of a lifted reference number.
-const REFERENCE_RISE: u32 = 0xe00_0000;
+const REFERENCE_RISE: u32 = 256 * BG_POINT_BIAS - REFERENCE_BIAS;
 
 // The width and height of a picture, and whether it repeats.
 pub struct ViewPort {
@@ -29,10 +30,10 @@ pub struct ViewPort {
 fn contains(side: u32, q: u32) -> bool
     ensures { λ r. ⌜ r ≡ within (coordinate q) side ⌝ }
 {
-    if q < POINT_BIAS {
+    if q < BG_POINT_BIAS {
         false
     } else {
-        q - POINT_BIAS < side
+        q - BG_POINT_BIAS < side
     }
 }
 
@@ -57,10 +58,10 @@ pub fn rem_euclid(q: u32, side: u32) -> u32
     requires { ⌜ Side side ⌝ }
     ensures { λ r. ⌜ (r ≡ wrapped (coordinate q) side) × (r < side) ⌝ }
 {
-    if q < POINT_BIAS {
+    if q < BG_POINT_BIAS {
         q % side
-    } else if q - POINT_BIAS < side {
-        q - POINT_BIAS
+    } else if q - BG_POINT_BIAS < side {
+        q - BG_POINT_BIAS
     } else {
         q % side
     }
@@ -75,7 +76,7 @@ fn down_256(sum: u32) -> u32
 
 // A coordinate of the point of a column, from a lifted reference number and a lifted step.
 pub fn transform_bg_point(reference: u32, step: u32, screen_x: u32) -> u32
-    requires { ⌜ (reference < 2 ^ 29) × (step < 2 ^ 16) × («screen_x» < 240) ⌝ }
+    requires { ⌜ LiftedPoint reference step «screen_x» ⌝ }
     ensures { λ q. ⌜ down256 (subℕ reference (2 ^ 28) +ℤ pos «screen_x» *ℤ subℕ step (2 ^ 15)) ≡ coordinate q ⌝ }
 {
     down_256(reference + REFERENCE_RISE + screen_x * step - screen_x * HALF_BIAS)

@@ -10,12 +10,13 @@ use borrow.Author.Tests.{lt-ltb}
 use Rattle.rgb15.specs.Colour.{transparent}
 use Rattle.signed.specs.Signed.{within}
 use Rattle.rows.specs.Below.{between}
+use Rattle.tiles.specs.Flip.{flip}
 use Rattle.regs.specs.declared.ObjMapping.{ObjMapping}
 use Rattle.regs.specs.declared.reading.Reading.{Reading}
 use Rattle.obj_sprites.specs.Oam.{Matrix}
 use Rattle.obj_sprites.specs.Place.{boxWidth, boxHeight, left, below}
 use Rattle.obj_sprites.specs.Tiles.{texel}
-use Rattle.obj_sprites.specs.Color.{flip, normalColor, colorAt, affineObjColor}
+use Rattle.obj_sprites.specs.Color.{normalColor, colorAt, affineObjColor}
 use Rattle.obj_texels.specs.Code.{pointColor, TurnOf}
 use Rattle.obj_texels.specs.declared.affine.Turn.{Turn}
 use Rattle.obj_sprites.specs.declared.attrs.ObjAttrs.{ObjAttrs}

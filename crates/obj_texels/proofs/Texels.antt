@@ -2,58 +2,43 @@
 -- file. Assumes nothing.
 use Prim.Native.Nat.{ℕ, _+_, _-_, _*_, _/_, _%_, _≤_, _<_}
 use native.Mathlib.Omega.{arith}
-use mathlib.Core.Path.{_≡_, refl, sym, ap, ap₂, _∙_}
+use mathlib.Core.Path.{_≡_, refl, ap, _∙_}
 use mathlib.Core.Bool.{Bool, true, false, cond}
 use mathlib.Core.List.{List}
 use lib.Dec.{ltb}
-use lib.ListN.{getD, set, replicate, length-replicate, getD-replicate}
-use lib.Seq.{getD-set-other, getD-take}
+use lib.ListN.{getD, replicate, getD-replicate}
 use lib.IntN.{pos, subℕ, _-ℤ_}
-use borrow.Author.Tests.{ltb-true, ltb-false, lt-ltb, le-ltb}
+use borrow.Author.Tests.{lt-ltb, le-ltb}
 use Rattle.rgb15.specs.Colour.{rgb, transparent}
 use Rattle.rgb15.specs.declared.Rgb15.{Rgb15}
 use Rattle.rows.specs.Below.{between}
 use Rattle.rows.specs.Cells.{only}
 use Rattle.rows.specs.Tab.{tab, mapTab}
 use Rattle.rows.proofs.Below.{between-inside}
-use Rattle.rows.proofs.Tab.{getD-of-tab, tab-cong, tab-ext}
-use Rattle.rows.proofs.Tabbed.{setTile, Tiled, tiled-none, tiled-row}
+use Rattle.rows.proofs.Tab.{getD-of-tab, tab-cong}
 use Rattle.memory.specs.Palette.{paletteColor}
 use Rattle.memory.specs.Tiles.{paletteBank, tilePixel}
-use Rattle.tiles.specs.Flip.{flipped}
-use Rattle.tiles.proofs.Rows.{flipped-bound}
+use Rattle.tiles.specs.Flip.{flip}
+use Rattle.tiles.proofs.Rows.{flip-bound}
 use Rattle.regs.specs.declared.ObjMapping.{ObjMapping}
 use Rattle.regs.specs.declared.reading.Reading.{Reading}
 use Rattle.obj_sprites.specs.Oam.{Matrix}
 use Rattle.obj_sprites.specs.Place.{boxWidth, boxHeight, left, below}
 use Rattle.obj_sprites.specs.Tiles.{tileAt, texel}
-use Rattle.obj_sprites.specs.Color.{flip, normalColor, affineObjColor}
+use Rattle.obj_sprites.specs.Color.{normalColor, affineObjColor}
 use Rattle.obj_sprites.specs.declared.attrs.ObjAttrs.{ObjAttrs}
 use Rattle.obj_texels.specs.Code.{rowTexel, pointColor, affineTexel, TurnOf}
 use Rattle.obj_texels.specs.declared.affine.Turn.{Turn}
 use Rattle.obj_texels.proofs.Colors.{normalColor-inside, affineObjColor-inside}
 
--- ---- places that are flipped
-
-pub flip-bound : (set : Bool) (side at : ℕ) → at < side → flip set side at < side
-unfolding flip
-flip-bound true side at at< = omega arith
-flip-bound false side at at< = at<
+-- ---- the row of a tile
 
 -- Pixel k of tile t of a flipped row is a flipped pixel of a flipped tile.
-pub flip-tile : (set : Bool) (width tiles t k : ℕ) → width ≡ 8 * tiles → t < tiles → k < 8
+flip-tile : (set : Bool) (width tiles t k : ℕ) → width ≡ 8 * tiles → t < tiles → k < 8
     → 8 * flip set tiles t + flip set 8 k ≡ flip set width (8 * t + k)
 unfolding flip
 flip-tile true width tiles t k whole t< k< = omega arith
 flip-tile false width tiles t k whole t< k< = omega arith
-
--- ---- the row of a tile
-
--- A place in a tile is flipped like one in a row of 8.
-flip-eight : (set : Bool) (at : ℕ) → flipped set at ≡ flip set 8 at
-unfolding flip
-flip-eight true at = refl
-flip-eight false at = refl
 
 module _ (reading : Reading) (mapping : ObjMapping) (vram palette : List ℕ) (s : ObjAttrs) (y : ℕ) where
   -- Pixel b of tile a.
@@ -76,7 +61,7 @@ module _ (reading : Reading) (mapping : ObjMapping) (vram palette : List ℕ) (s
       → bank ≡ paletteBank (s .format) (s .bank)
       → r
       ≡ tab
-      (λ k. rgb (paletteColor palette 0x200 (tilePixel vram addr (flipped (s .«h_flip») k) (y % 8) (s .format)) bank))
+      (λ k. rgb (paletteColor palette 0x200 (tilePixel vram addr (flip (s .«h_flip») 8 k) (y % 8) (s .format)) bank))
       8
       → r ≡ tab (λ k. rgb (texel reading mapping vram palette s (flip (s .«h_flip») (s .width) (8 * t + k)) y)) 8
   row-shown t {tiles} {tile} whole t< tile-is addr-is bank-is r-is =
@@ -84,10 +69,9 @@ module _ (reading : Reading) (mapping : ObjMapping) (vram palette : List ℕ) (s
       ∙ tab-cong _ _ 8
       (λ k k<.
       ap rgb
-      (texel-tile tile (flipped (s .«h_flip») k) (flipped-bound (s .«h_flip») k k<) addr-is bank-is
+      (texel-tile tile (flip (s .«h_flip») 8 k) (flip-bound (s .«h_flip») 8 k k<) addr-is bank-is
       ∙ ap (λ x. texel reading mapping vram palette s x y)
-      (ap₂ (λ n m. 8 * n + m) tile-is (flip-eight (s .«h_flip») k)
-      ∙ flip-tile (s .«h_flip») (s .width) tiles t k whole t< k<)))
+      (ap (λ n. 8 * n + flip (s .«h_flip») 8 k) tile-is ∙ flip-tile (s .«h_flip») (s .width) tiles t k whole t< k<)))
 
 -- ---- a row of 128 columns
 
@@ -101,73 +85,6 @@ module _ (reading : Reading) (mapping : ObjMapping) (vram palette : List ℕ) (s
   pub rowTexel-outside : s .width ≤ x → rowTexel reading mapping vram palette s y x ≡ transparent
   unfolding rowTexel
   rowTexel-outside x≥ = rw (le-ltb x (s .width) x≥)
-
--- The columns from k on are transparent.
-pub record Clear (k : ℕ) (l : List Rgb15) : Type 0 where
-  pub clear : (x : ℕ) → k ≤ x → x < 128 → getD l x (rgb 0) ≡ rgb transparent
-
--- The columns of the first t tiles are set, column x to f x, and those after them are transparent still.
-pub record TilesSet (f : ℕ → Rgb15) (t : ℕ) (l : List Rgb15) : Type 0 where
-  pub tiled : Tiled f 128 16 t l
-  pub rest : Clear (8 * t) l
-
--- A column below k is set.
-clear-set : (k i : ℕ) (a : Rgb15) {l : List Rgb15} → Clear k l → i < k → Clear k (set l i a)
-clear-set k i a {l} p i< =
-    record { clear = λ x x≥ x<. getD-set-other l i x a (rgb 0) (omega arith) ∙ p .clear x x≥ x< }
-
--- The eight columns from i on are set.
-clear-tile : (i : ℕ) (a b c d e g h j : Rgb15) {l : List Rgb15} → Clear i l → Clear (i + 8) (setTile l i a b c d e g h j)
-clear-tile i a b c d e g h j {l} p =
-    let fewer : Clear (i + 8) l = record { clear = λ x x≥ x<. p .clear x (omega arith) x< } in
-    clear-set (i + 8) (i + 7) j
-    (clear-set (i + 8) (i + 6) h
-    (clear-set (i + 8) (i + 5) g
-    (clear-set (i + 8) (i + 4) e
-    (clear-set (i + 8) (i + 3) d
-    (clear-set (i + 8) (i + 2) c
-    (clear-set (i + 8) (i + 1) b (clear-set (i + 8) i a fewer (omega arith)) (omega arith))
-    (omega arith))
-    (omega arith))
-    (omega arith))
-    (omega arith))
-    (omega arith))
-    (omega arith)
-
-pub tilesSet-none : {f : ℕ → Rgb15} → TilesSet f 0 (replicate 128 (rgb transparent))
-tilesSet-none =
-    record {
-      tiled = tiled-none refl (length-replicate 128 (rgb transparent));
-      rest = record { clear = λ x x≥ x<. getD-replicate 128 x (rgb transparent) (rgb 0) x< };
-    }
-
--- A turn, which set the columns of tile t to the elements of its row.
-pub tilesSet-more : {f : ℕ → Rgb15} {t : ℕ} {l : List Rgb15} (g : ℕ → Rgb15) (d : Rgb15) (row : List Rgb15)
-    → TilesSet f t l → t < 16 → row ≡ tab g 8 → ((k : ℕ) → k < 8 → g k ≡ f (8 * t + k))
-    → TilesSet f (t + 1)
-    (setTile l (8 * t) (getD row 0 d) (getD row 1 d) (getD row 2 d) (getD row 3 d)
-    (getD row 4 d) (getD row 5 d) (getD row 6 d) (getD row 7 d))
-tilesSet-more {t = t} {l} g d row p t< row-is same =
-    let next : 8 * (t + 1) ≡ 8 * t + 8 = omega arith in
-    record {
-      tiled = tiled-row g d row (p .tiled) t< row-is same;
-      rest =
-          rw next
-          (clear-tile (8 * t) (getD row 0 d) (getD row 1 d) (getD row 2 d) (getD row 3 d)
-          (getD row 4 d) (getD row 5 d) (getD row 6 d) (getD row 7 d) (p .rest));
-    }
-
--- Where all other columns are transparent, the row is whole.
-pub tilesSet-all : {f : ℕ → Rgb15} {t : ℕ} {l : List Rgb15} → TilesSet f t l
-    → ((x : ℕ) → 8 * t ≤ x → f x ≡ rgb transparent)
-    → l ≡ tab f 128
-tilesSet-all {f} {t} {l} p none = tab-ext f 128 (rgb 0) l (p .tiled .tabbed .size) (λ x x<. go x x< (ltb x (8 * t)) refl)
-  where
-    go : (x : ℕ) → x < 128 → (b : Bool) → ltb x (8 * t) ≡ b → getD l x (rgb 0) ≡ f x
-    go x x< true h =
-        let x<tiles = ltb-true x (8 * t) h in
-        sym (getD-take (8 * t) l x (rgb 0) x<tiles) ∙ getD-of-tab f (8 * t) x (rgb 0) (p .tiled .tabbed .made) x<tiles
-    go x x< false h = let x≥ = ltb-false x (8 * t) h in p .rest .clear x x≥ x< ∙ sym (none x x≥)
 
 -- A column of the box, by the row of colours.
 pub normalColor-row : (reading : Reading) (mapping : ObjMapping) (vram palette : List ℕ) (s : ObjAttrs) (line l : ℕ)

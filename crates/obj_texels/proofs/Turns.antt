@@ -65,16 +65,12 @@ turnOf-is m s {iy} r w j k x y matrix-is w-is iy-is x-is y-is =
           };
       pa-is = matrix-is .pa-is;
       pc-is = matrix-is .pc-is;
-      x-start =
-          ap (λ w. m .pa *ℤ (pos 0 -ℤ pos (w / 2)) +ℤ m .pb *ℤ iy) (sym w-is)
-          ∙ start-is (r .pa) (r .pb) (w / 2) k j x (matrix-is .pa-is) (matrix-is .pb-is) iy-is x-is;
-      y-start =
-          ap (λ w. m .pc *ℤ (pos 0 -ℤ pos (w / 2)) +ℤ m .pd *ℤ iy) (sym w-is)
-          ∙ start-is (r .pc) (r .pd) (w / 2) k j y (matrix-is .pc-is) (matrix-is .pd-is) iy-is y-is;
+      x-start = rw (sym w-is) (start-is (r .pa) (r .pb) (w / 2) k j x (matrix-is .pa-is) (matrix-is .pb-is) iy-is x-is);
+      y-start = rw (sym w-is) (start-is (r .pc) (r .pd) (w / 2) k j y (matrix-is .pc-is) (matrix-is .pd-is) iy-is y-is);
       x-is = λ i i≤.
-          ap (λ w. turn (m .pa) (m .pb) (pos i -ℤ pos (w / 2)) iy (s .width)) (sym w-is)
-          ∙ turn-is (r .pa) (r .pb) (w / 2) k j x i (s .width) (matrix-is .pa-is) (matrix-is .pb-is) iy-is x-is i≤;
+          rw (sym w-is)
+          (turn-is (r .pa) (r .pb) (w / 2) k j x i (s .width) (matrix-is .pa-is) (matrix-is .pb-is) iy-is x-is i≤);
       y-is = λ i i≤.
-          ap (λ w. turn (m .pc) (m .pd) (pos i -ℤ pos (w / 2)) iy (s .height)) (sym w-is)
-          ∙ turn-is (r .pc) (r .pd) (w / 2) k j y i (s .height) (matrix-is .pc-is) (matrix-is .pd-is) iy-is y-is i≤;
+          rw (sym w-is)
+          (turn-is (r .pc) (r .pd) (w / 2) k j y i (s .height) (matrix-is .pc-is) (matrix-is .pd-is) iy-is y-is i≤);
     }

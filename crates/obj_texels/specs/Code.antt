@@ -1,28 +1,44 @@
 -- As code has it: a sprite's row of 128 colours, which the widest box has, and an affine sprite's matrix and points, each
 -- larger by a bias (01, "Sprites"; GBATEK, "LCD OBJ - OAM Attributes", "LCD OBJ - OAM Rotation/Scaling Parameters").
 -- No exported contract reaches this file. Assumes nothing.
-use Prim.Native.Nat.{ℕ, _^_, _+_, _-_, _*_, _/_, _≤_, _<_}
-use mathlib.Core.Bool.{cond}
+use Prim.Native.Nat.{ℕ, _^_, _+_, _-_, _*_, _/_, _%_, _≤_, _<_}
+use mathlib.Core.Path.{_≡_}
+use mathlib.Core.Bool.{true, cond}
 use mathlib.Core.List.{List}
 use lib.Dec.{ltb}
 use lib.IntN.{subℕ, ℤ, pos, _+ℤ_, _-ℤ_, _*ℤ_}
+use lib.ListN.{length}
 use Rattle.rgb15.specs.Colour.{transparent}
 use Rattle.rows.specs.Below.{between}
+use Rattle.memory.specs.Sizes.{oamSize}
+use Rattle.memory.specs.Code.{Lent}
+use Rattle.tiles.specs.Flip.{flip}
 use Rattle.regs.specs.declared.ObjMapping.{ObjMapping}
 use Rattle.regs.specs.declared.reading.Reading.{Reading}
-use Rattle.obj_sprites.specs.Tiles.{texel}
-use Rattle.obj_sprites.specs.Color.{flip, colorAt, turn}
-use Rattle.obj_sprites.specs.declared.attrs.ObjAttrs.{ObjAttrs}
-use Rattle.obj_texels.specs.declared.affine.Turn.{Turn}
-use mathlib.Core.Path.{_≡_}
+use Rattle.obj_sprites.specs.Attrs.{Decoded}
 use Rattle.obj_sprites.specs.Oam.{Matrix}
-use Rattle.obj_sprites.specs.Place.{boxWidth}
+use Rattle.obj_sprites.specs.Place.{boxWidth, onLine}
+use Rattle.obj_sprites.specs.Tiles.{texel}
+use Rattle.obj_sprites.specs.Color.{colorAt, turn}
+use Rattle.obj_sprites.specs.declared.attrs.ObjAttrs.{ObjAttrs}
 use Rattle.obj_texels.specs.declared.affine.AffineMatrix.{AffineMatrix}
+use Rattle.obj_texels.specs.declared.affine.Turn.{Turn}
+
+-- ---- a normal sprite's row
+
+-- What row y is read from.
+pub record NormalRow (vram palette : List ℕ) (s : ObjAttrs) (y : ℕ) : Type 0 where
+  pub lent : Lent vram palette
+  pub decoded : Decoded s
+  pub whole : s .width % 8 ≡ 0
+  pub y< : y < s .height
 
 -- The colour of column x of row y of a normal sprite, counted from the left as shown; past the sprite's width there is none.
 unfoldable pub rowTexel : Reading → ObjMapping → List ℕ → List ℕ → ObjAttrs → ℕ → ℕ → ℕ
 rowTexel reading mapping vram palette s y x =
     cond (ltb x (s .width)) (texel reading mapping vram palette s (flip (s .«h_flip») (s .width) x) y) transparent
+
+-- ---- an affine sprite's matrix and points
 
 -- A matrix with each number 2^15 larger.
 pub record MatrixOf (m : Matrix) (r : AffineMatrix) : Type 0 where
@@ -38,6 +54,22 @@ pub record MatrixOf (m : Matrix) (r : AffineMatrix) : Type 0 where
 -- A coordinate of column i of the box, 2^16 larger: start is that of column 0, 256 to a pixel, and p the matrix's number.
 abbrev pub pointAt : ℕ → ℕ → ℕ → ℕ → ℕ
 pointAt start p i side = (start + p * i - 2 ^ 15 * i) / 256 + side / 2
+
+-- What it is computed from has these ranges, so that no difference is below 0.
+pub record PointRanges (start p i side : ℕ) : Type 0 where
+  pub start≥ : 2 ^ 22 ≤ start
+  pub start≤ : start ≤ 2 ^ 26
+  pub p< : p < 2 ^ 16
+  pub i≤ : i ≤ 127
+  pub side≤ : side ≤ 64
+
+-- What start is computed from: the matrix's numbers p and q, the box's middle (m, k) and the line's row j in the box.
+pub record StartRanges (p q m k j : ℕ) : Type 0 where
+  pub p< : p < 2 ^ 16
+  pub q< : q < 2 ^ 16
+  pub m≤ : m ≤ 64
+  pub k≤ : k ≤ 64
+  pub j≤ : j ≤ 127
 
 -- What start is, by the matrix's numbers p and q, the box's middle (m, k) and the line's row j in the box.
 pub record StartOf (p q m k j start : ℕ) : Type 0 where
@@ -68,6 +100,27 @@ pub record TurnOf (m : Matrix) (s : ObjAttrs) (iy : ℤ) (t : Turn) : Type 0 whe
   pub y-is : (i : ℕ) → i ≤ 127
       → turn (m .pc) (m .pd) (pos i -ℤ pos (boxWidth s / 2)) iy (s .height)
       ≡ subℕ (pointAt (t .y) (t .pc) i (s .height)) (2 ^ 16)
+
+-- A line that an affine sprite is on.
+pub record TurnLine (oam : List ℕ) (s : ObjAttrs) (reading : Reading) (line : ℕ) : Type 0 where
+  pub oam-is : length oam ≡ oamSize
+  pub decoded : Decoded s
+  pub line< : line < 160
+  pub on-line : onLine reading s line ≡ true
+
+-- ---- an affine sprite's row
+
+-- What a column's point is read from.
+pub record Turned (vram palette : List ℕ) (s : ObjAttrs) (t : Turn) : Type 0 where
+  pub lent : Lent vram palette
+  pub decoded : Decoded s
+  pub ranged : Ranged t
+
+-- The same, for the columns from one up to another.
+pub record TurnedRow (vram palette : List ℕ) (s : ObjAttrs) (t : Turn) (from to : ℕ) : Type 0 where
+  pub turned : Turned vram palette s t
+  pub from≤ : from ≤ to
+  pub to≤ : to ≤ 128
 
 -- The colour of column i of an affine sprite's box, at that column's point.
 abbrev pub pointColor : Reading → ObjMapping → List ℕ → List ℕ → ObjAttrs → Turn → ℕ → ℕ

@@ -1,35 +1,46 @@
 // The points of affine sprites and their colours (render/obj.rs: `get_affine_matrix`, and the sums of `render_affine_obj`).
 // Every number is larger here by a bias, so that none is below 0.
 ghost use mathlib.Core.Path.{_≡_};
-ghost use mathlib.Core.Bool.{true};
 ghost use Prim.Native.Nat.{_+_, _/_, _^_, _≤_, _<_};
 ghost use lib.IntN.{pos, _-ℤ_};
 ghost use lib.ListN.{length};
 ghost use Rattle.rgb15.specs.Colour.{rgb};
-ghost use Rattle.memory.specs.Sizes.{videoRamSize, paletteRamSize, oamSize};
+ghost use Rattle.memory.specs.Sizes.{oamSize};
 ghost use Rattle.rows.specs.Tab.{tab};
 ghost use Rattle.obj_sprites.specs.Oam.{matrix};
-ghost use Rattle.obj_sprites.specs.Attrs.{Decoded};
-ghost use Rattle.obj_sprites.specs.Place.{boxHeight, below, onLine};
-ghost use Rattle.obj_texels.specs.Code.{MatrixOf, StartOf, Ranged, TurnOf, pointAt, pointColor, affineTexel};
+ghost use Rattle.obj_sprites.specs.Place.{boxHeight, below};
+ghost use Rattle.obj_texels.specs.Code.{MatrixOf, StartOf, TurnOf, pointAt, pointColor, affineTexel};
+ghost use Rattle.obj_texels.specs.Code.{StartRanges, TurnLine, PointRanges, Turned, TurnedRow};
+use crate::BOX_COLUMNS;
 use memory::read_16;
+use obj_sprites::ATTRS_SIZE;
 use obj_sprites::ObjAttrs;
 use obj_sprites::is_inside;
 use obj_sprites::read_texel;
 use regs::ObjMapping;
 use regs::Reading;
 use rgb15::Rgb15;
+use signed::HALF_BIAS;
 use signed::lift_half;
 
+// Where the numbers of matrix 0 lie: each follows a sprite's attributes.
 const AFFINE_FILL: usize = 2 * 3;
 
+const PB_OFS: usize = ATTRS_SIZE;
+
+const PC_OFS: usize = 2 * ATTRS_SIZE;
+
+const PD_OFS: usize = 3 * ATTRS_SIZE;
+
+const MATRIX_SIZE: usize = 4 * ATTRS_SIZE;
+
 // What a matrix's numbers are larger by.
-const HALF_BIAS: usize = 0x8000;
+const MATRIX_BIAS: usize = HALF_BIAS as usize;
 
 // What a point's coordinates are larger by, and what they are larger by 256 to a pixel.
-const POINT_BIAS: usize = 0x1_0000;
+const OBJ_POINT_BIAS: usize = 0x1_0000;
 
-const START_BIAS: usize = 0x100_0000;
+const START_BIAS: usize = 256 * OBJ_POINT_BIAS;
 
 // A matrix.
 struct AffineMatrix {
@@ -43,12 +54,12 @@ fn get_affine_matrix(oam: &[u8], affine_index: usize) -> AffineMatrix
     requires { ⌜ (length (now oam) ≡ oamSize) × («affine_index» ≤ 31) ⌝ }
     ensures { λ m. ⌜ MatrixOf (matrix (now (oam .entry)) «affine_index») m ⌝ }
 {
-    let offset = AFFINE_FILL + 32 * affine_index;
+    let offset = AFFINE_FILL + MATRIX_SIZE * affine_index;
     AffineMatrix {
         pa: lift_half(read_16(oam, offset)) as usize,
-        pb: lift_half(read_16(oam, offset + 8)) as usize,
-        pc: lift_half(read_16(oam, offset + 16)) as usize,
-        pd: lift_half(read_16(oam, offset + 24)) as usize,
+        pb: lift_half(read_16(oam, offset + PB_OFS)) as usize,
+        pc: lift_half(read_16(oam, offset + PC_OFS)) as usize,
+        pd: lift_half(read_16(oam, offset + PD_OFS)) as usize,
     }
 }
 
@@ -63,23 +74,16 @@ pub struct Turn {
 // One coordinate of where column 0 lies: p and q are the matrix's numbers, half_width and half_height the box's middle,
 // and row the line's place in the box.
 fn turn_start(p: usize, q: usize, half_width: usize, half_height: usize, row: usize) -> usize
-    requires { ⌜ (p < 2 ^ 16)
-        × (q < 2 ^ 16)
-        × («half_width» ≤ 64)
-        × («half_height» ≤ 64)
-        × (row ≤ 127) ⌝ }
+    requires { ⌜ StartRanges p q «half_width» «half_height» row ⌝ }
     ensures { λ r. ⌜ StartOf p q «half_width» «half_height» row r ⌝ }
 {
-    let added = HALF_BIAS * half_width + q * row + HALF_BIAS * half_height + START_BIAS;
-    let taken = p * half_width + HALF_BIAS * row + q * half_height;
+    let added = MATRIX_BIAS * half_width + q * row + MATRIX_BIAS * half_height + START_BIAS;
+    let taken = p * half_width + MATRIX_BIAS * row + q * half_height;
     added - taken
 }
 
 pub fn turn_line(oam: &[u8], attrs: ObjAttrs, reading: Reading, line: usize) -> Turn
-    requires { ⌜ (length (now oam) ≡ oamSize)
-        × Decoded attrs
-        × (line < 160)
-        × (onLine reading attrs line ≡ true) ⌝ }
+    requires { ⌜ TurnLine (now oam) attrs reading line ⌝ }
     ensures { λ t.
         ⌜ TurnOf (matrix (now (oam .entry)) (attrs .«affine_index»)) attrs
         (below reading attrs line -ℤ pos (boxHeight attrs / 2)) t ⌝ }
@@ -106,14 +110,10 @@ fn pixel_of(sum: usize, side: usize) -> usize
 
 // A coordinate of column i of a box.
 fn point_at(start: usize, p: usize, i: usize, side: usize) -> usize
-    requires { ⌜ (2 ^ 22 ≤ start)
-        × (start ≤ 2 ^ 26)
-        × (p < 2 ^ 16)
-        × (i ≤ 127)
-        × (side ≤ 64) ⌝ }
+    requires { ⌜ PointRanges start p i side ⌝ }
     ensures { λ r. ⌜ r ≡ pointAt start p i side ⌝ }
 {
-    pixel_of(start + p * i - HALF_BIAS * i, side)
+    pixel_of(start + p * i - MATRIX_BIAS * i, side)
 }
 
 // The colour of column i of an affine sprite's box: nothing is read where its point is outside.
@@ -126,11 +126,7 @@ fn point_color(
     turn: Turn,
     i: usize,
 ) -> Rgb15
-    requires { ⌜ (length (now vram) ≡ videoRamSize)
-        × (length (now palette) ≡ paletteRamSize)
-        × Decoded attrs
-        × Ranged turn
-        × (i ≤ 127) ⌝ }
+    requires { ⌜ Turned (now vram) (now palette) attrs turn × (i ≤ 127) ⌝ }
     ensures { λ c.
         ⌜ c .0 ≡ pointColor reading mapping (now (vram .entry)) (now (palette .entry)) attrs turn i ⌝ }
 {
@@ -138,9 +134,9 @@ fn point_color(
     let height = attrs.height;
     let x = point_at(turn.x, turn.pa, i, width);
     let y = point_at(turn.y, turn.pc, i, height);
-    if is_inside(x, POINT_BIAS, width) & is_inside(y, POINT_BIAS, height) {
-        let sprite_x = x - POINT_BIAS;
-        let sprite_y = y - POINT_BIAS;
+    if is_inside(x, OBJ_POINT_BIAS, width) & is_inside(y, OBJ_POINT_BIAS, height) {
+        let sprite_x = x - OBJ_POINT_BIAS;
+        let sprite_y = y - OBJ_POINT_BIAS;
         read_texel(vram, palette, attrs, reading, mapping, sprite_x, sprite_y)
     } else {
         Rgb15::TRANSPARENT
@@ -157,13 +153,8 @@ pub fn affine_row(
     turn: Turn,
     from: usize,
     to: usize,
-) -> [Rgb15; 128]
-    requires { ⌜ (length (now vram) ≡ videoRamSize)
-        × (length (now palette) ≡ paletteRamSize)
-        × Decoded attrs
-        × Ranged turn
-        × (from ≤ to)
-        × (to ≤ 128) ⌝ }
+) -> [Rgb15; BOX_COLUMNS]
+    requires { ⌜ TurnedRow (now vram) (now palette) attrs turn from to ⌝ }
     ensures { λ r.
         ⌜ r
         ≡ tab
@@ -173,7 +164,7 @@ pub fn affine_row(
         i))
         128 ⌝ }
 {
-    let mut row = [Rgb15::TRANSPARENT; 128];
+    let mut row = [Rgb15::TRANSPARENT; BOX_COLUMNS];
     let mut i = from;
     while i < to {
         row[i] = point_color(vram, palette, attrs, reading, mapping, turn, i);

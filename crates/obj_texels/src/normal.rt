@@ -1,24 +1,23 @@
 // The colours of a normal sprite's row, by whole tiles.
 ghost use mathlib.Core.Path.{_≡_};
-ghost use Prim.Native.Nat.{_+_, _*_, _/_, _%_, _≤_, _<_};
-ghost use lib.ListN.{length};
+ghost use Prim.Native.Nat.{_+_, _*_, _/_, _<_};
 ghost use Rattle.rgb15.specs.Colour.{rgb};
-ghost use Rattle.memory.specs.Sizes.{videoRamSize, paletteRamSize};
-ghost use Rattle.memory.specs.Palette.{paletteColor};
-ghost use Rattle.memory.specs.Tiles.{colours, tilePixel};
-ghost use Rattle.tiles.specs.Flip.{flipped};
 ghost use Rattle.rows.specs.Tab.{tab};
-ghost use Rattle.obj_sprites.specs.Attrs.{Decoded};
+ghost use Rattle.memory.specs.Palette.{paletteColor};
+ghost use Rattle.memory.specs.Tiles.{tilePixel};
+ghost use Rattle.tiles.specs.Flip.{flip};
+ghost use Rattle.tiles.specs.Code.{ColorRow};
 ghost use Rattle.obj_sprites.specs.Tiles.{texel};
-ghost use Rattle.obj_sprites.specs.Color.{flip};
-ghost use Rattle.obj_texels.specs.Code.{rowTexel};
+ghost use Rattle.obj_texels.specs.Code.{NormalRow, rowTexel};
+use crate::BOX_COLUMNS;
 use memory::PixelFormat;
 use obj_sprites::ObjAttrs;
 use obj_sprites::PALRAM_OFS_FG;
-use obj_sprites::flip;
 use regs::ObjMapping;
 use regs::Reading;
 use rgb15::Rgb15;
+use tiles::TILE_SIDE;
+use tiles::flip;
 use tiles::flip_row;
 use tiles::tile_color;
 
@@ -31,20 +30,16 @@ fn tile_row(
     y: usize,
     format: PixelFormat,
     bank: usize,
-    flip: bool,
-) -> [Rgb15; 8]
-    requires { ⌜ (length (now vram) ≡ videoRamSize)
-        × (length (now palette) ≡ paletteRamSize)
-        × («tile_addr» + 63 < videoRamSize)
-        × (y < 8)
-        × (16 * bank + colours format ≤ 256) ⌝ }
+    flipped: bool,
+) -> [Rgb15; TILE_SIDE]
+    requires { ⌜ ColorRow (now vram) (now palette) 0x200 «tile_addr» y format bank ⌝ }
     ensures { λ r.
         ⌜ r
         ≡ tab
         (λ x.
         rgb
         (paletteColor (now (palette .entry)) 0x200
-        (tilePixel (now (vram .entry)) «tile_addr» (flipped flip x) y format) bank))
+        (tilePixel (now (vram .entry)) «tile_addr» (flip flipped 8 x) y format) bank))
         8 ⌝ }
 {
     let row = [
@@ -57,7 +52,7 @@ fn tile_row(
         tile_color(vram, palette, PALRAM_OFS_FG, tile_addr, 6, y, format, bank),
         tile_color(vram, palette, PALRAM_OFS_FG, tile_addr, 7, y, format, bank),
     ];
-    flip_row(row, flip)
+    flip_row(row, flipped)
 }
 
 // The eight colours of row y of a normal sprite's tile t, counted from the left as shown.
@@ -69,13 +64,8 @@ fn shown_tile(
     mapping: ObjMapping,
     y: usize,
     t: usize,
-) -> [Rgb15; 8]
-    requires { ⌜ (length (now vram) ≡ videoRamSize)
-        × (length (now palette) ≡ paletteRamSize)
-        × Decoded attrs
-        × (attrs .width % 8 ≡ 0)
-        × (y < attrs .height)
-        × (t < attrs .width / 8) ⌝ }
+) -> [Rgb15; TILE_SIDE]
+    requires { ⌜ NormalRow (now vram) (now palette) attrs y × (t < attrs .width / 8) ⌝ }
     ensures { λ r.
         ⌜ r
         ≡ tab
@@ -87,9 +77,17 @@ fn shown_tile(
 {
     let format = attrs.format;
     let bank = format.palette_bank(attrs.bank);
-    let tile = flip(attrs.h_flip, attrs.width / 8, t);
-    let tile_addr = attrs.tile_at(reading, mapping, 8 * tile, y);
-    tile_row(vram, palette, tile_addr, y % 8, format, bank, attrs.h_flip)
+    let tile = flip(attrs.h_flip, attrs.width / TILE_SIDE, t);
+    let tile_addr = attrs.tile_at(reading, mapping, TILE_SIDE * tile, y);
+    tile_row(
+        vram,
+        palette,
+        tile_addr,
+        y % TILE_SIDE,
+        format,
+        bank,
+        attrs.h_flip,
+    )
 }
 
 // The colours of row y of a normal sprite, column by column as shown. It goes by whole tiles, which is twice as quick as a
@@ -101,24 +99,20 @@ pub fn texel_row(
     reading: Reading,
     mapping: ObjMapping,
     y: usize,
-) -> [Rgb15; 128]
-    requires { ⌜ (length (now vram) ≡ videoRamSize)
-        × (length (now palette) ≡ paletteRamSize)
-        × Decoded attrs
-        × (attrs .width % 8 ≡ 0)
-        × (y < attrs .height) ⌝ }
+) -> [Rgb15; BOX_COLUMNS]
+    requires { ⌜ NormalRow (now vram) (now palette) attrs y ⌝ }
     ensures { λ r.
         ⌜ r
         ≡ tab
         (λ x. rgb (rowTexel reading mapping (now (vram .entry)) (now (palette .entry)) attrs y x))
         128 ⌝ }
 {
-    let tiles = attrs.width / 8;
-    let mut row = [Rgb15::TRANSPARENT; 128];
+    let tiles = attrs.width / TILE_SIDE;
+    let mut row = [Rgb15::TRANSPARENT; BOX_COLUMNS];
     let mut t: usize = 0;
     while t < tiles {
         let eight = shown_tile(vram, palette, attrs, reading, mapping, y, t);
-        let i = 8 * t;
+        let i = TILE_SIDE * t;
         row[i] = eight[0];
         row[i + 1] = eight[1];
         row[i + 2] = eight[2];

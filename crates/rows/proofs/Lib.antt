@@ -3,7 +3,7 @@
 --
 -- Bytes, Cells, Words, Tab and Below have the laws of what specs/ defines. The others have loops: a record that the
 -- loop keeps, and the laws that answer where it begins, turns and ends. Passed: cells of a row. Tabbed: elements of an array.
--- Columns: what a loop over 240 columns computes.
+-- Tiles: those of a tile a turn. Sums: what a loop adds up. Columns: what a loop over 240 columns computes.
 --
 -- A law's name is what is read, what was done, and the case:
 --   -none, -more, -all    with none of n done, with one more done, with all done
@@ -22,7 +22,8 @@ pub mod Bytes
 pub mod Cells
 pub mod Columns
 pub mod Passed
-pub mod Tab
 pub mod Sums
+pub mod Tab
 pub mod Tabbed
+pub mod Tiles
 pub mod Words

@@ -5,11 +5,11 @@ use Rattle.signed.proofs.Remainder.{within-subℕ-below, within-subℕ-from}
 use Rattle.bg_points.proofs.contains.Statement.{statement}
 use Rattle.bg_points.proofs.contains.Tie as tie
 
-returns : tie.Need-returns
-returns c = sym (within-subℕ-below _ _ _ (c .if1 .taken))
+below-zero : tie.Need-returns
+below-zero c = sym (within-subℕ-below _ _ _ (c .if1 .taken))
 
-returns-2 : tie.Need-returns-2
-returns-2 c = sym (within-subℕ-from _ _ _ (c .if1 .left))
+from-zero : tie.Need-returns-2
+from-zero c = sym (within-subℕ-from _ _ _ (c .if1 .left))
 
 pub contains-spec : {M : Type 1} → statement M
-contains-spec = tie.close (tie.spec returns returns-2)
+contains-spec = tie.close (tie.spec below-zero from-zero)

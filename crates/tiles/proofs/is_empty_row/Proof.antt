@@ -5,13 +5,13 @@ use Rattle.tiles.proofs.Empty.{emptyRow-one-word, emptyRow-two-words}
 use Rattle.tiles.proofs.is_empty_row.Statement.{statement}
 use Rattle.tiles.proofs.is_empty_row.Tie as tie
 
-returns : tie.Need-returns
-returns c =
+one-word : tie.Need-returns
+one-word c =
     let told = c .before in
     emptyRow-one-word _ _ _ (told .before .before .shared-slice-known .given) (told .enum-told .given .1) (c .read-32 .ensures)
 
-returns-2 : tie.Need-returns-2
-returns-2 c =
+two-words : tie.Need-returns-2
+two-words c =
     let read = c .before in
     emptyRow-two-words _ _ _ (read .before .enum-told2 .given .1) (read .read-322 .ensures) (c .read-323 .ensures)
 
@@ -31,5 +31,5 @@ is-empty-row-spec =
     (search needs)
     (search needs)
     (search needs)
-    returns
-    returns-2)
+    one-word
+    two-words)

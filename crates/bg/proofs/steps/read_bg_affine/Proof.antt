@@ -1,9 +1,8 @@
 -- bg::steps::read_bg_affine meets its contract: the test is that of both reference numbers.
 -- Assumes nothing.
-use mir.Syntax.{w32}
-use mir.Facts.{toZ-ofZ}
 use borrow.Author.Needs.{needs}
 use borrow.Author.Tests.{eq-eqb, ne-eqb}
+use Rattle.bg_points.proofs.Ranges.{field-kept}
 use Rattle.bg.proofs.steps.read_bg_affine.Statement.{statement}
 use Rattle.bg.proofs.steps.read_bg_affine.Tie as tie
 
@@ -13,8 +12,8 @@ second c =
     let tested = c .before in
     let test = eq-eqb _ 2 (tested .if1 .taken) in
     record {
-      x-is = rw test (toZ-ofZ {w = w32} (record { sfits = fits .0 .1 }));
-      y-is = rw test (toZ-ofZ {w = w32} (record { sfits = fits .1 .0 .1 }));
+      x-is = rw test (field-kept (fits .0 .1));
+      y-is = rw test (field-kept (fits .1 .0 .1));
       pa-is = tested .before .before .read-pa .ensures;
       pc-is = tested .before .read-pc .ensures;
     }
@@ -25,8 +24,8 @@ third c =
     let tested = c .before in
     let test = ne-eqb _ 2 (tested .if1 .left) in
     record {
-      x-is = rw test (toZ-ofZ {w = w32} (record { sfits = fits .1 .1 .0 .1 }));
-      y-is = rw test (toZ-ofZ {w = w32} (record { sfits = fits .1 .1 .1 .0 .1 }));
+      x-is = rw test (field-kept (fits .1 .1 .0 .1));
+      y-is = rw test (field-kept (fits .1 .1 .1 .0 .1));
       pa-is = tested .before .before .read-pa .ensures;
       pc-is = tested .before .read-pc .ensures;
     }

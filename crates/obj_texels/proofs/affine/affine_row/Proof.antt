@@ -18,25 +18,19 @@ Inv-loop vram palette attrs reading mapping turn from to row₀ i₀ row i =
 abbrev μ-loop : tie.MeasureT-loop
 μ-loop vram palette attrs reading mapping turn from to row₀ i₀ row i = to - i
 
-loop-holds : tie.Need-loop-holds Inv-loop μ-loop
-loop-holds c = mapped-from (length-replicate 128 (rgb transparent)) (omega arith)
+abbrev start : tie.At-loop Inv-loop μ-loop → tie.Start Inv-loop μ-loop
+start loop = loop .before .before .before
 
-point-color-requires : tie.Need-point-color-requires Inv-loop μ-loop
-point-color-requires c κs =
-    let pre = c .before .before .before .before .pre in
-    (pre .0, pre .1, pre .2, pre .3, omega arith)
-
-loop-again : tie.Need-loop-again Inv-loop μ-loop
-loop-again c =
+next-column : tie.Need-loop-again Inv-loop μ-loop
+next-column c =
     let turn = c .before in
-    mapped-inside (turn .before .loop .inv) (turn .loop-test .taken) (turn .before .before .before .before .pre .5)
-    (ap rgb (c .point-color .ensures))
+    let loop = turn .before in
+    mapped-inside (loop .loop .inv) (turn .loop-test .taken) (start loop .pre .to≤) (ap rgb (c .point-color .ensures))
 
 returns : tie.Need-returns Inv-loop μ-loop
 returns c =
-    let loop = c .before in
-    let at = loop .before .before .before .args in
-    mapped-to (loop .loop .inv) (c .loop-test .left)
+    let at = start (c .before) .args in
+    mapped-to (c .before .loop .inv) (c .loop-test .left)
     ∙ affineTexel-row (at .reading) (at .mapping) (at .vram .now) (at .palette .now) (at .attrs) (at .turn) (at .from) (at .to) 128
     (rgb 0)
 
@@ -46,11 +40,11 @@ affine-row-spec =
     (tie.spec
     Inv-loop
     μ-loop
-    loop-holds
-    point-color-requires
+    (λ c. mapped-from (length-replicate 128 (rgb transparent)) (omega arith))
+    (λ c κs. (start (c .before) .pre .turned, omega arith))
     (λ c. omega arith)
     (λ c. omega arith)
     (λ c. omega arith)
     (λ c. omega arith)
-    loop-again
+    next-column
     returns)

@@ -11,38 +11,12 @@ bounds : (c : tie.Start)
     → let at = c .args in
     (at .q * at .row ≤ 65535 * 127) × (at .p * at .half-width ≤ 65535 * 64) × (at .q * at .half-height ≤ 65535 * 64)
 bounds c =
-    let at = c .args in (
-      scaled-bound (at .q) (at .row) 127 (search needs) (search needs),
-      scaled-bound (at .p) (at .half-width) 64 (search needs) (search needs),
-      scaled-bound (at .q) (at .half-height) 64 (search needs) (search needs),
+    let at = c .args in
+    let pre = c .pre in (
+      scaled-bound (at .q) (at .row) 127 (pre .q<) (pre .j≤),
+      scaled-bound (at .p) (at .half-width) 64 (pre .p<) (pre .m≤),
+      scaled-bound (at .q) (at .half-height) 64 (pre .q<) (pre .k≤),
     )
-
-mul-added-2 : tie.Need-mul-added-2
-mul-added-2 c = omega (arith, bounds c)
-
-add-added : tie.Need-add-added
-add-added c = omega (arith, bounds c)
-
-add-added-2 : tie.Need-add-added-2
-add-added-2 c = omega (arith, bounds c)
-
-add-added-3 : tie.Need-add-added-3
-add-added-3 c = omega (arith, bounds c)
-
-mul-taken : tie.Need-mul-taken
-mul-taken c = omega (arith, bounds c)
-
-add-taken : tie.Need-add-taken
-add-taken c = omega (arith, bounds c)
-
-mul-taken-3 : tie.Need-mul-taken-3
-mul-taken-3 c = omega (arith, bounds c)
-
-add-taken-2 : tie.Need-add-taken-2
-add-taken-2 c = omega (arith, bounds c)
-
-sub-result : tie.Need-sub-result
-sub-result c = omega (arith, bounds c)
 
 returns : tie.Need-returns
 returns c = let small = bounds c in search needs
@@ -52,15 +26,15 @@ turn-start-spec =
     tie.close
     (tie.spec
     (λ c. omega arith)
-    mul-added-2
-    add-added
+    (λ c. omega (arith, bounds c))
+    (λ c. omega (arith, bounds c))
     (λ c. omega arith)
-    add-added-2
-    add-added-3
-    mul-taken
+    (λ c. omega (arith, bounds c))
+    (λ c. omega (arith, bounds c))
+    (λ c. omega (arith, bounds c))
     (λ c. omega arith)
-    add-taken
-    mul-taken-3
-    add-taken-2
-    sub-result
+    (λ c. omega (arith, bounds c))
+    (λ c. omega (arith, bounds c))
+    (λ c. omega (arith, bounds c))
+    (λ c. omega (arith, bounds c))
     returns)

@@ -1,34 +1,22 @@
 -- obj_texels::normal::tile_row meets its contract: its eight calls give the row's eight colours, which are then flipped.
 -- Assumes nothing.
-use native.Mathlib.Omega.{arith}
 use mathlib.Core.Path.{refl}
+use lib.Dec.{lit<}
 use borrow.Author.Needs.{needs}
-use Rattle.memory.specs.Palette.{paletteColor}
-use Rattle.memory.specs.Tiles.{tilePixel}
-use Rattle.tiles.proofs.Rows.{row-flipped}
+use Rattle.tiles.proofs.Rows.{tileRow-is}
 use Rattle.obj_texels.proofs.normal.tile_row.Statement.{statement}
 use Rattle.obj_texels.proofs.normal.tile_row.Tie as tie
 
-tile-color-requires-7 : tie.Need-tile-color-requires-7
-tile-color-requires-7 c κs = search needs
-
-tile-color-requires-8 : tie.Need-tile-color-requires-8
-tile-color-requires-8 c κs =
-    let pre = c .before .before .before .before .before .before .before .before .before .pre in
-    (pre .0, pre .1, omega arith, pre .2, omega arith, pre .3, pre .4)
+abbrev start : tie.After-tile-color4 → tie.Start
+start fourth = fourth .before .before .before .before .before .before
 
 returns : tie.Need-returns
 returns c =
     let eighth = c .before in
     let fourth = eighth .before .before .before .before in
-    let first = fourth .before .before .before in
-    let at = first .before .before .before .args in
-    row-flipped
-    (λ x.
-    paletteColor (at .palette .now) 0x200
-    (tilePixel (at .vram .now) (at .tile-addr) x (at .y) (at .format)) (at .bank))
-    (at .flip)
-    (first .tile-color .ensures)
+    let at = start fourth .args in
+    tileRow-is (at .vram .now) (at .palette .now) 0x200 (at .tile-addr) (at .y) (at .format) (at .bank) (at .flipped)
+    (fourth .before .before .before .tile-color .ensures)
     (fourth .before .before .tile-color2 .ensures)
     (fourth .before .tile-color3 .ensures)
     (fourth .tile-color4 .ensures)
@@ -46,9 +34,9 @@ tile-row-spec =
     (search needs)
     (search needs)
     (search needs)
-    (search needs)
-    (search needs)
-    tile-color-requires-7
-    tile-color-requires-8
+    (λ c κs. (start c .pre, lit< tt))
+    (λ c κs. (start (c .before) .pre, lit< tt))
+    (λ c κs. (start (c .before .before) .pre, lit< tt))
+    (λ c κs. (start (c .before .before .before) .pre, lit< tt))
     (λ c κs. refl)
     returns)

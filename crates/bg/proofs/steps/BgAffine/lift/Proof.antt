@@ -1,9 +1,8 @@
 -- bg::steps::BgAffine::lift meets its contract: each call lifts one of the four numbers.
 -- Assumes nothing.
 use mathlib.Core.Path.{sym, _∙_}
-use mir.Syntax.{w32}
-use mir.Facts.{toZ-ofZ}
 use borrow.Author.Needs.{needs}
+use Rattle.bg_points.proofs.Ranges.{field-kept}
 use Rattle.bg.proofs.steps.BgAffine.lift.Statement.{statement}
 use Rattle.bg.proofs.steps.BgAffine.lift.Tie as tie
 
@@ -14,8 +13,8 @@ returns c =
     let x = y .before .before in
     let fits = x .before .struct-told .given in
     record {
-      x-is = sym (toZ-ofZ {w = w32} (record { sfits = fits .0 .1 })) ∙ x .lift-i32 .ensures .0;
-      y-is = sym (toZ-ofZ {w = w32} (record { sfits = fits .1 .0 .1 })) ∙ y .lift-i322 .ensures .0;
+      x-is = sym (field-kept (fits .0 .1)) ∙ x .lift-i32 .ensures .0;
+      y-is = sym (field-kept (fits .1 .0 .1)) ∙ y .lift-i322 .ensures .0;
       pa-is = pa .lift-half .ensures .0;
       pc-is = c .lift-half2 .ensures .0;
       x< = x .lift-i32 .ensures .1;
