@@ -18,7 +18,7 @@ use Rattle.obj.specs.Order.{Draw, Pixel, isOpaque, pixelOf, pixelsUpTo, 
 use Rattle.obj_sprites.specs.declared.attrs.ObjMode.{ObjMode}
 use Rattle.obj_entries.specs.declared.Entry.{Entry}
 use Rattle.obj_sprites.proofs.Decode.{priority-bound}
-use Rattle.obj.proofs.Before.{Earlier, isBefore-priority, isBefore-earlier, isBefore-le}
+use Rattle.obj.proofs.Before.{Earlier, by-priority, isBefore-before, isBefore-earlier, isBefore-le}
 use Rattle.obj.proofs.Pixels.{putPixel-forbidden}
 use Rattle.obj.proofs.Marks.{semi-put-same, semi-put-other}
 
@@ -51,11 +51,12 @@ module _ (ps : List Pixel) (e : Entry) (q : Pixel) where
   taken-first : Holds ps e → q .priority < e .priority → (p : Pixel) → List·Memᴰ p ps → isBefore q p ≡ true
   taken-first (none empty blank) h p m = absurd (List·Memᴰ·not-nil (rw empty at m))
   taken-first (some w wins shows) h p m =
-      isBefore-priority q p
+      isBefore-before q p
+      (by-priority
       (⊎-elim
       (λ same. omega (arith, shows .priority-is, ap (λ x. x .priority) same))
       (λ before. omega (arith, shows .priority-is, isBefore-le w p before))
-      (wins .first p m))
+      (wins .first p m)))
 
   holds-taken : (f : Entry) → Holds ps e → q .priority < e .priority → Shows q f → Holds (ps ++ (q ∷ [])) f
   holds-taken f holds h shows =
