@@ -1,12 +1,13 @@
 -- Laws of which of two pixels comes first, and of the winner. No contract cites this file. Assumes nothing.
 use Prim.Native.Nat.{ℕ, _≤_, _<_}
+use native.Mathlib.Nat.{eq-or-lt-of-le}
 use native.Mathlib.Omega.{arith}
-use mathlib.Core.Path.{_≡_, refl, sym}
-use mathlib.Core.Bool.{Bool, true, false, or-true}
+use mathlib.Core.Path.{_≡_, sym}
+use mathlib.Core.Bool.{true, _&&_, _||_, or-true}
 use mathlib.Core.List.{List}
 use mathlib.Core.Logic.{_⊎_, inl, inr, ⊎-elim}
 use lib.Dec.{eqb, ltb}
-use borrow.Author.Tests.{ltb-true, ltb-false, lt-ltb, eqb-true, eq-eqb}
+use borrow.Author.Tests.{ltb-true, lt-ltb, eqb-true, eq-eqb}
 use Rattle.bits.proofs.Booleans.{and-both}
 use Rattle.obj_entries.proofs.Shapes.{or-split}
 use Rattle.obj.specs.Order.{Pixel, isBefore, Wins}
@@ -15,17 +16,18 @@ use Rattle.obj.specs.Order.{Pixel, isBefore, Wins}
 abbrev pub Earlier : ℕ → ℕ → Pixel → Type 0
 Earlier i n p = (p .draw < i) ⊎ ((p .draw ≡ i) × (p .sprite < n))
 
-module _ (p q : Pixel) where
-  pub isBefore-priority : p .priority < q .priority → isBefore p q ≡ true
-  unfolding isBefore
-  isBefore-priority h = rw (lt-ltb (p .priority) (q .priority) h)
+-- Pixel p comes before q: by its priority, or among equals because it was put earlier.
+pub data Before (p q : Pixel) : Type 0 where
+  by-priority : p .priority < q .priority → Before p q
+  by-time : p .priority ≡ q .priority → Earlier (q .draw) (q .sprite) p → Before p q
 
-  -- Of equal priorities the earlier pixel comes first.
-  isBefore-tie : p .priority ≡ q .priority → Earlier (q .draw) (q .sprite) p → isBefore p q ≡ true
+module _ (p q : Pixel) where
+  pub isBefore-before : Before p q → isBefore p q ≡ true
   unfolding isBefore
-  isBefore-tie e (inl h) =
+  isBefore-before (by-priority h) = rw (lt-ltb (p .priority) (q .priority) h)
+  isBefore-before (by-time e (inl h)) =
       rw (eq-eqb (p .priority) (q .priority) e, lt-ltb (p .draw) (q .draw) h, or-true (ltb (p .priority) (q .priority)))
-  isBefore-tie e (inr h) =
+  isBefore-before (by-time e (inr h)) =
       rw (
         eq-eqb (p .priority) (q .priority) e,
         eq-eqb (p .draw) (q .draw) (h .0),
@@ -34,49 +36,53 @@ module _ (p q : Pixel) where
         or-true (ltb (p .priority) (q .priority)),
       )
 
-  pub isBefore-earlier : p .priority ≤ q .priority → Earlier (q .draw) (q .sprite) p → isBefore p q ≡ true
-  isBefore-earlier h u = go (ltb (p .priority) (q .priority)) refl
+  before-isBefore : isBefore p q ≡ true → Before p q
+  unfolding isBefore
+  before-isBefore e =
+      ⊎-elim
+      (λ t. by-priority (ltb-true (p .priority) (q .priority) t))
+      (λ t.
+      let both = and-both (eqb (p .priority) (q .priority)) _ t in
+      by-time (eqb-true (p .priority) (q .priority) (both .0)) (earlier (both .1)))
+      (or-split (ltb (p .priority) (q .priority)) _ e)
     where
-      go : (t : Bool) → ltb (p .priority) (q .priority) ≡ t → isBefore p q ≡ true
-      go true t = isBefore-priority (ltb-true (p .priority) (q .priority) t)
-      go false t = isBefore-tie (omega (arith, ltb-false (p .priority) (q .priority) t)) u
+      earlier : (ltb (p .draw) (q .draw) || (eqb (p .draw) (q .draw) && ltb (p .sprite) (q .sprite))) ≡ true
+          → Earlier (q .draw) (q .sprite) p
+      earlier t =
+          ⊎-elim
+          (λ h. inl (ltb-true (p .draw) (q .draw) h))
+          (λ h.
+          let both = and-both (eqb (p .draw) (q .draw)) (ltb (p .sprite) (q .sprite)) h in
+          inr (eqb-true (p .draw) (q .draw) (both .0), ltb-true (p .sprite) (q .sprite) (both .1)))
+          (or-split (ltb (p .draw) (q .draw)) _ t)
+
+  pub isBefore-earlier : p .priority ≤ q .priority → Earlier (q .draw) (q .sprite) p → isBefore p q ≡ true
+  isBefore-earlier h u = isBefore-before (⊎-elim (λ same. by-time same u) by-priority (eq-or-lt-of-le h))
 
   -- What comes first has no greater priority.
   pub isBefore-le : isBefore p q ≡ true → p .priority ≤ q .priority
-  unfolding isBefore
-  isBefore-le e = go (ltb (p .priority) (q .priority)) refl
+  isBefore-le e = go (before-isBefore e)
     where
-      go : (t : Bool) → ltb (p .priority) (q .priority) ≡ t → p .priority ≤ q .priority
-      go true t = omega (arith, ltb-true (p .priority) (q .priority) t)
-      go false t = omega (arith, eqb-true (p .priority) (q .priority) (and-both _ _ (rw t at e) .0))
-
--- Of equal priorities what comes first is earlier.
-isBefore-same : (p q : Pixel) → p .priority ≡ q .priority → isBefore p q ≡ true → Earlier (q .draw) (q .sprite) p
-unfolding isBefore
-isBefore-same p q same e =
-    ⊎-elim
-    (λ t. absurd (omega (arith, ltb-true (p .priority) (q .priority) t)))
-    (λ t.
-    ⊎-elim
-    (λ h. inl (ltb-true (p .draw) (q .draw) h))
-    (λ h.
-    let both = and-both (eqb (p .draw) (q .draw)) (ltb (p .sprite) (q .sprite)) h in
-    inr (eqb-true (p .draw) (q .draw) (both .0), ltb-true (p .sprite) (q .sprite) (both .1)))
-    (or-split (ltb (p .draw) (q .draw)) _ (and-both (eqb (p .priority) (q .priority)) _ t .1)))
-    (or-split (ltb (p .priority) (q .priority)) _ e)
+      go : Before p q → p .priority ≤ q .priority
+      go (by-priority h) = omega arith
+      go (by-time same h) = omega arith
 
 -- Not both of two pixels come first.
-isBefore-once : (p q : Pixel) → isBefore p q ≡ true → isBefore q p ≡ true → ⊥
-isBefore-once p q h u =
-    let same : p .priority ≡ q .priority = omega (arith, isBefore-le p q h, isBefore-le q p u) in
-    ⊎-elim
-    (λ a. ⊎-elim (λ b. omega arith) (λ b. omega (arith, b .0)) (isBefore-same q p (sym same) u))
-    (λ a. ⊎-elim (λ b. omega (arith, a .0)) (λ b. omega (arith, a .1, b .1)) (isBefore-same q p (sym same) u))
-    (isBefore-same p q same h)
+before-once : {p q : Pixel} → Before p q → Before q p → ⊥
+before-once (by-priority h) (by-priority u) = omega arith
+before-once (by-priority h) (by-time same u) = omega arith
+before-once (by-time same h) (by-priority u) = omega arith
+before-once (by-time same (inl h)) (by-time same-too (inl u)) = omega arith
+before-once (by-time same (inl h)) (by-time same-too (inr u)) = omega (arith, u .0)
+before-once (by-time same (inr h)) (by-time same-too (inl u)) = omega (arith, h .0)
+before-once (by-time same (inr h)) (by-time same-too (inr u)) = omega (arith, h .1, u .1)
 
 -- There is one winner.
 pub wins-once : (ps : List Pixel) (v w : Pixel) → Wins ps v → Wins ps w → v ≡ w
 wins-once ps v w a b =
     ⊎-elim (λ same. same)
-    (λ w-first. ⊎-elim (λ same. sym same) (λ v-first. absurd (isBefore-once w v w-first v-first)) (a .first w (b .among)))
+    (λ w-first.
+    ⊎-elim (λ same. sym same)
+    (λ v-first. absurd (before-once (before-isBefore w v w-first) (before-isBefore v w v-first)))
+    (a .first w (b .among)))
     (b .first v (a .among))

@@ -3,8 +3,8 @@
 --
 -- Pixels answers one sprite's code, and Skip and Steps the pass; Marks and Shapes are of entries.
 -- Before, Order and Windows are the order of pixels.
--- A law's name is as in `sprites`; besides, -passed and -taken: of a pixel that loses, and of one that wins; -front: with one
--- more done at the start.
+-- A law's name is as in `obj_sprites`; besides, -passed and -taken: of a pixel that loses, and of one that wins; -read: of what
+-- was read; -closed and -open: of columns that are left out, and of those that are put.
 pub mod Before
 pub mod Marks
 pub mod Order

@@ -18,7 +18,7 @@ use Rattle.obj.specs.Order.{Draw, Pixel, isOpaque, pixelOf, pixelsUpTo, 
 use Rattle.obj_sprites.specs.declared.attrs.ObjMode.{ObjMode}
 use Rattle.obj_entries.specs.declared.Entry.{Entry}
 use Rattle.obj_sprites.proofs.Decode.{priority-bound}
-use Rattle.obj.proofs.Before.{Earlier, isBefore-priority, isBefore-earlier, isBefore-le}
+use Rattle.obj.proofs.Before.{Earlier, by-priority, isBefore-before, isBefore-earlier, isBefore-le}
 use Rattle.obj.proofs.Pixels.{putPixel-forbidden}
 use Rattle.obj.proofs.Marks.{semi-put-same, semi-put-other}
 
@@ -28,33 +28,35 @@ use Rattle.obj.proofs.Marks.{semi-put-same, semi-put-other}
 abbrev pub AllEarlier : ℕ → ℕ → List Pixel → Type 0
 AllEarlier i n ps = (p : Pixel) → List·Memᴰ p ps → Earlier i n p
 
-module _ (ps : List Pixel) (e : Entry) (q : Pixel) where
-  -- A pixel that the entry's priority passes over doesn't win.
-  wins-passed : (w : Pixel) → Wins ps w → w .priority ≤ q .priority → Earlier (q .draw) (q .sprite) w → Wins (ps ++ (q ∷ [])) w
-  wins-passed w wins h u =
-      record {
-        among = Memᴰ·append-left (q ∷ []) (wins .among);
-        first = λ p m.
-            ⊎-elim (λ in-ps. wins .first p in-ps)
-            (λ last. inr (ap (isBefore w) (List·Memᴰ·eq-of-singleton last) ∙ isBefore-earlier w q h u))
-            (List·Memᴰ·append-cases ps m);
-      }
+-- A pixel that the entry's priority passes over doesn't win.
+wins-passed : (ps : List Pixel) (q w : Pixel) → Wins ps w → w .priority ≤ q .priority → Earlier (q .draw) (q .sprite) w
+    → Wins (ps ++ (q ∷ [])) w
+wins-passed ps q w wins h u =
+    record {
+      among = Memᴰ·append-left (q ∷ []) (wins .among);
+      first = λ p m.
+          ⊎-elim (λ in-ps. wins .first p in-ps)
+          (λ last. inr (ap (isBefore w) (List·Memᴰ·eq-of-singleton last) ∙ isBefore-earlier w q h u))
+          (List·Memᴰ·append-cases ps m);
+    }
 
+module _ (ps : List Pixel) (e : Entry) (q : Pixel) where
   holds-passed : Holds ps e → AllEarlier (q .draw) (q .sprite) ps → q .priority ≤ 3 → e .priority ≤ q .priority
       → Holds (ps ++ (q ∷ [])) e
   holds-passed (none empty blank) earlier q≤ h = absurd (omega (arith, blank .priority-is))
   holds-passed (some w wins shows) earlier q≤ h =
-      some w (wins-passed w wins (omega (arith, shows .priority-is)) (earlier w (wins .among))) shows
+      some w (wins-passed ps q w wins (omega (arith, shows .priority-is)) (earlier w (wins .among))) shows
 
   -- A pixel of lesser priority than the entry's wins.
   taken-first : Holds ps e → q .priority < e .priority → (p : Pixel) → List·Memᴰ p ps → isBefore q p ≡ true
   taken-first (none empty blank) h p m = absurd (List·Memᴰ·not-nil (rw empty at m))
   taken-first (some w wins shows) h p m =
-      isBefore-priority q p
+      isBefore-before q p
+      (by-priority
       (⊎-elim
       (λ same. omega (arith, shows .priority-is, ap (λ x. x .priority) same))
       (λ before. omega (arith, shows .priority-is, isBefore-le w p before))
-      (wins .first p m))
+      (wins .first p m)))
 
   holds-taken : (f : Entry) → Holds ps e → q .priority < e .priority → Shows q f → Holds (ps ++ (q ∷ [])) f
   holds-taken f holds h shows =
@@ -69,22 +71,22 @@ module _ (ps : List Pixel) (e : Entry) (q : Pixel) where
 
 -- ---- one sprite more
 
--- A pixel q of a sprite that is ordinary or semi-transparent.
-module _ (ps : List Pixel) (e : Entry) (q : Pixel) where
-  abbrev shown : Entry
-  shown = shownBy (q .semi) (q .priority) (q .color) e
+-- The entry that shows a pixel.
+abbrev shown : Pixel → Entry → Entry
+shown q = shownBy (q .semi) (q .priority) (q .color)
 
-  shows-shownBy : Shows q shown
-  unfolding shownBy
-  shows-shownBy = record { color-is = refl; priority-is = refl; semi-is = semi-put-same (q .semi) (e .marks) }
+shows-shown : (q : Pixel) (e : Entry) → Shows q (shown q e)
+unfolding shownBy
+shows-shown q e = record { color-is = refl; priority-is = refl; semi-is = semi-put-same (q .semi) (e .marks) }
 
-  holds-shown : Holds ps e → AllEarlier (q .draw) (q .sprite) ps → q .priority ≤ 3
-      → Holds (ps ++ (q ∷ [])) (cond (leb (e .priority) (q .priority)) e shown)
-  holds-shown holds earlier q≤ = go (leb (e .priority) (q .priority)) refl
-    where
-      go : (t : Bool) → leb (e .priority) (q .priority) ≡ t → Holds (ps ++ (q ∷ [])) (cond t e shown)
-      go true t = holds-passed ps e q holds earlier q≤ (leb-true (e .priority) (q .priority) t)
-      go false t = holds-taken ps e q _ holds (omega (arith, leb-false (e .priority) (q .priority) t)) shows-shownBy
+-- A pixel of a sprite that is ordinary or semi-transparent.
+holds-shown : (ps : List Pixel) (e : Entry) (q : Pixel) → Holds ps e → AllEarlier (q .draw) (q .sprite) ps → q .priority ≤ 3
+    → Holds (ps ++ (q ∷ [])) (cond (leb (e .priority) (q .priority)) e (shown q e))
+holds-shown ps e q holds earlier q≤ = go (leb (e .priority) (q .priority)) refl
+  where
+    go : (t : Bool) → leb (e .priority) (q .priority) ≡ t → Holds (ps ++ (q ∷ [])) (cond t e (shown q e))
+    go true t = holds-passed ps e q holds earlier q≤ (leb-true (e .priority) (q .priority) t)
+    go false t = holds-taken ps e q _ holds (omega (arith, leb-false (e .priority) (q .priority) t)) (shows-shown q e)
 
 -- The window mark is none of what an entry shows.
 holds-windowed : (ps : List Pixel) (e : Entry) → Holds ps e → Holds ps (windowed e)
@@ -111,17 +113,16 @@ module _ (ps : List Pixel) (e : Entry) (i n priority color : ℕ)
   pixelBy mode = record { draw = i; sprite = n; priority = priority; color = color; semi = isSemi mode }
 
   holds-put : (mode : ObjMode) (clear : Bool) → isTransparent color ≡ clear
-      → Holds (ps ++ cond (isVisible mode && not (isTransparent color)) (pixelBy mode ∷ []) []) (putPixel mode priority color e)
+      → Holds (ps ++ cond (isVisible mode && not (isTransparent color)) (pixelBy mode ∷ []) [])
+      (putPixel mode priority color e)
   unfolding putPixel passedOver written isVisible isSemi
-  holds-put mode true t =
-      rw (t, or-true (passedOver mode priority e), and-false (isVisible mode), append-nil ps) holds
+  holds-put mode true t = rw (t, or-true (passedOver mode priority e), and-false (isVisible mode), append-nil ps) holds
   holds-put ObjMode.Normal false t =
       rw (t, or-false (leb (e .priority) priority)) (holds-shown ps e (pixelBy ObjMode.Normal) holds earlier priority≤)
   holds-put ObjMode.Sfx false t =
       rw (t, or-false (leb (e .priority) priority)) (holds-shown ps e (pixelBy ObjMode.Sfx) holds earlier priority≤)
   holds-put ObjMode.Window false t = rw (t, append-nil ps) (holds-windowed ps e holds)
-  holds-put ObjMode.Forbidden false t =
-      rw (append-nil ps, putPixel-forbidden priority color e) holds
+  holds-put ObjMode.Forbidden false t = rw (append-nil ps, putPixel-forbidden priority color e) holds
 
 -- A pixel that is put last is earlier than the next sprite is.
 earlier-put : (ps : List Pixel) (q : Pixel) (visible : Bool) → AllEarlier (q .draw) (q .sprite) ps
@@ -158,7 +159,8 @@ module _ (column : ℕ) where
         holds =
             holds-put ps e i n (s .priority) color (held .holds) (held .earlier) (priority-bound _)
             (s .objmode) (isTransparent color) refl;
-        earlier = earlier-put ps (pixelOf i d n column) (isVisible (s .objmode) && not (isTransparent color)) (held .earlier);
+        earlier =
+            earlier-put ps (pixelOf i d n column) (isVisible (s .objmode) && not (isTransparent color)) (held .earlier);
       }
 
   -- The first n sprites of draw number i.

@@ -154,15 +154,7 @@ pub source-is : (m : Memory) {d : DisplayControl} {mapping : ObjMapping} {start 
     → _≡_ {A = Source}
     (record { vram = m .vram; palette = m .palette; oam = m .oam; mapping = mapping; start = start })
     (source m)
-source-is m read mapping-is start-is =
-    λ i.
-    record {
-      vram = m .vram;
-      palette = m .palette;
-      oam = m .oam;
-      mapping = (mapping-is ∙ ap objMapping (read .mapping-is)) i;
-      start = (start-is ∙ ap tilesStart (read .mode-is)) i;
-    }
+source-is m read mapping-is start-is = cc
 
 -- Where the pass ends: what it made of each column is the row after it.
 pub sprites-all : (reading : Reading) {o p : Source} (line : ℕ) {n : ℕ} {l₀ l : List ℕ} → SpritesUpTo reading o line l₀ n l

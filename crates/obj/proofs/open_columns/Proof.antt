@@ -1,5 +1,4 @@
--- obj::open_columns meets its contract: a sprite that is tested by priority is passed over at a closed column, and of the
--- columns of any other sprite none is left out.
+-- obj::open_columns meets its contract: a sprite that tests priority is passed over at a closed column.
 -- Assumes nothing.
 use borrow.Author.Needs.{needs}
 use Rattle.obj.proofs.Skip.{walked-none, walkedBack-none, walked-closed, walkedBack-closed}

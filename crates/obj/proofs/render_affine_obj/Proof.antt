@@ -1,5 +1,4 @@
--- obj::render_affine_obj meets its contract: the row's colours are put in the box's columns but those at which the sprite is
--- passed over, and no other column has a pixel.
+-- obj::render_affine_obj meets its contract: a column that is left out has no pixel, or the sprite is passed over there.
 -- Assumes nothing.
 use native.Mathlib.Omega.{arith}
 use borrow.Author.Needs.{needs}
