@@ -66,7 +66,8 @@ module _ (reading : Reading) (palette registers entries at : List ℕ) (line : �
       → objects ≡ tab (λ k. cellAt entryCells entries k .color .0) 240
       → toRgb24 (atColumn (columnColor l w) regions tags objects first second third fourth column .0)
       ≡ pixel reading registers (backdrop palette)
-      (placedLayers registers at (lineColor first column) (lineColor second column) (lineColor third column) (lineColor fourth column))
+      (placedLayers registers at
+      (lineColor first column) (lineColor second column) (lineColor third column) (lineColor fourth column))
       (cellAt entryCells entries column) column line
   unfolding pixel caseOf atColumn
   pixel-is first second third fourth column lt regions-is l-is w-is tags-are objects-are =

@@ -11,7 +11,7 @@ use Rattle.bits.specs.Bits.{bits, bit}
 use Rattle.bits.proofs.Booleans.{and-both}
 use Rattle.rgb15.specs.Colour.{rgb}
 use Rattle.rgb15.specs.declared.Rgb15.{Rgb15}
-use Rattle.rows.specs.Below.{allBelow, tally}
+use Rattle.rows.specs.Below.{tally}
 use Rattle.rows.specs.Tab.{tab}
 use Rattle.rows.proofs.Below.{allBelow-at, allBelow-tally}
 use Rattle.rows.proofs.Tab.{tab-cong}

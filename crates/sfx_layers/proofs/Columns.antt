@@ -3,12 +3,11 @@
 use Prim.Native.Nat.{ℕ, zero, suc, _<_}
 use native.Mathlib.Omega.{arith}
 use mathlib.Core.Path.{_≡_, refl, ap, _∙_}
-use mathlib.Core.Bool.{Bool, true, false, cond, not, _&&_}
+use mathlib.Core.Bool.{Bool, true, false, cond, _&&_}
 use mathlib.Core.List.{List, [], _∷_}
 use lib.Dec.{leb, ltb}
 use lib.ListN.{getD}
 use borrow.Author.Tests.{ltb-true}
-use Rattle.rgb15.specs.Colour.{isTransparent}
 use Rattle.rows.specs.Tab.{tab}
 use Rattle.rows.proofs.Tab.{tab-cong}
 use Rattle.memory.specs.Palette.{backdrop}
@@ -29,7 +28,8 @@ use Rattle.sfx_regions.proofs.Regions.{wordIn-each}
 use Rattle.sfx_sorting.specs.Ordered.{keep}
 use Rattle.sfx_layers.specs.Layers.{Layer, Pair, isObject, background, backdropLayer, objectLayer}
 use Rattle.sfx_layers.specs.Layers.{counts, objectCounts, firstTwo, placed, layers}
-use Rattle.sfx_layers.specs.Code.{objectTag, tagPriority, lineTag, linePlaceTag, placeTag, isShown, permitsPlace, regionWord, columnRegion}
+use Rattle.sfx_layers.specs.Code.{objectTag, lineTag, linePlaceTag, placeTag, isShown, goesOver}
+use Rattle.sfx_layers.specs.Code.{permitsPlace, regionWord, columnRegion}
 use Rattle.sfx_layers.specs.Code.{putBackground, backdropPair, backgroundPair, putObject, columnPair, LineLayersOf}
 use Rattle.sfx_layers.specs.declared.layer.LayerPair.{LayerPair}
 use Rattle.sfx_layers.specs.declared.layer.LineLayers.{LineLayers}
@@ -83,36 +83,30 @@ module _ (registers : List ℕ) (semi : Bool) where
 
   -- ---- the object
 
-  -- An object in its place, if it is shown.
-  place-object : (object : Layer) (permitted : Bool) (p : Pair)
-      → putObject (pairOf p) permitted (tagOf registers semi object) (object .color)
-      ≡ pairOf (cond (isShown permitted (object .color)) (placed object p) p)
-  unfolding putObject placed pairOf
-  place-object object permitted p =
-      let priority-of : (l : Layer) → tagPriority (tagOf registers semi l) ≡ l .priority = λ l. tag-bits registers semi l .priority-is in
-      rw (priority-of object, priority-of (p .top), priority-of (p .bottom))
-      (go (isShown permitted (object .color)) (leb (object .priority) (p .top .priority)) (leb (object .priority) (p .bottom .priority)))
-    where
-      go : (c s t : Bool)
-          → _≡_ {A = LayerPair}
-          (record {
-            top = cond (c && s) (object .color) (p .top .color);
-            «top_tag» = cond (c && s) (tagOf registers semi object) (tagOf registers semi (p .top));
-            bottom = cond (c && s) (p .top .color) (cond (c && t) (object .color) (p .bottom .color));
-            «bottom_tag» = cond (c && s) (tagOf registers semi (p .top)) (cond (c && t) (tagOf registers semi object) (tagOf registers semi (p .bottom)));
-          })
-          (pairOf
-          (cond c (cond s (record { top = object; bottom = p .top }) (cond t (record { top = p .top; bottom = object }) p)) p))
-      go true true t = refl
-      go true false true = refl
-      go true false false = refl
-      go false s t = refl
+  module _ (object : Layer) (permitted : Bool) (p : Pair) where
+    -- The test of code is that of the priorities.
+    goesOver-is : (l : Layer)
+        → goesOver permitted (tagOf registers semi object) (object .color) (tagOf registers semi l)
+        ≡ isShown permitted (object .color) && leb (object .priority) (l .priority)
+    goesOver-is l = rw (tag-bits registers semi object .priority-is, tag-bits registers semi l .priority-is)
+
+    -- An object in its place, if it is shown.
+    place-object : (shown first second : Bool) → isShown permitted (object .color) ≡ shown
+        → leb (object .priority) (p .top .priority) ≡ first
+        → leb (object .priority) (p .bottom .priority) ≡ second
+        → putObject (pairOf p) permitted (tagOf registers semi object) (object .color)
+        ≡ pairOf (cond (isShown permitted (object .color)) (placed object p) p)
+    unfolding putObject placed pairOf
+    place-object true true second c s t = rw (goesOver-is (p .top), goesOver-is (p .bottom), c, s)
+    place-object true false true c s t = rw (goesOver-is (p .top), goesOver-is (p .bottom), c, s, t)
+    place-object true false false c s t = rw (goesOver-is (p .top), goesOver-is (p .bottom), c, s, t)
+    place-object false first second c s t = rw (goesOver-is (p .top), goesOver-is (p .bottom), c)
 
 -- ---- a column
 
 module _ (palette registers at : List ℕ) {line : LineLayers} (line-is : LineLayersOf palette registers at line)
     (a b c d : ℕ) (e : Entry) (flags : ℕ) where
-  -- The word of the column's region, and its layers.
+  -- The word of the column's region.
   abbrev word : ℕ
   word = regionWord (enableObj (dispcnt registers)) at flags
 
@@ -142,13 +136,15 @@ module _ (palette registers at : List ℕ) {line : LineLayers} (line-is : LineLa
       ≡ pairOf registers (semiMark e) (layers registers flags (backdrop palette) (placedLayers registers at a b c d) e)
   unfolding columnPair layers objectCounts
   column-pair =
-      rw (background-pair, region-bits (enableObj (dispcnt registers)) at flags .objects-is, line-is .object-is, tag-object registers (semiMark e) e refl)
-      (place-object registers (semiMark e) (objectLayer e) _ _)
+      let bits = region-bits (enableObj (dispcnt registers)) at flags in
+      rw (background-pair, bits .objects-is, line-is .object-is, tag-object registers (semiMark e) e refl)
+      (place-object registers (semiMark e) (objectLayer e) _ _ _ _ _ refl refl refl)
 
 -- ---- a line
 
 -- The words of the five regions, by the flags that were read of each.
-pub regions-are : (reading : Reading) (registers entries at : List ℕ) (line : ℕ) {objects : Bool} {words : RegionWords} {row : List ℕ}
+pub regions-are : (reading : Reading) (registers entries at : List ℕ) (line : ℕ)
+    {objects : Bool} {words : RegionWords} {row : List ℕ}
     → objects ≡ enableObj (dispcnt registers)
     → words .win0 ≡ regionWord objects at (permitted registers Win0)
     → words .win1 ≡ regionWord objects at (permitted registers Win1)

@@ -13,7 +13,8 @@ use Rattle.regs_blend.specs.Layers.{backgroundLayer, targets}
 use Rattle.regs_blend.specs.Blend.{target1, target2}
 use Rattle.regs_blend.specs.declared.layer.RenderLayerKind.{RenderLayerKind}
 use Rattle.regs_blend.specs.declared.layer.RenderLayerKind.the-variants.{Objects}
-use Rattle.sfx_layers.specs.Code.{layerTag, semiBit, placeTag, isShown, goesOver, putBackground, backgroundPair, putObject, objectsBit, columnPair, LineLayersOf, Unmarked}
+use Rattle.sfx_layers.specs.Code.{layerTag, semiBit, placeTag, isShown, goesOver, LineLayersOf, Unmarked}
+use Rattle.sfx_layers.specs.Code.{putBackground, backgroundPair, putObject, objectsBit, columnPair}
 use Rattle.sfx_layers.specs.declared.layer.LineLayers.{LineLayers}
 use Rattle.sfx_layers.proofs.Tags.{asBit-bound}
 

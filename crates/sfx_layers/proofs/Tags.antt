@@ -17,7 +17,8 @@ use Rattle.regs_blend.specs.declared.layer.RenderLayerKind.the-variants.{Object
 use Rattle.obj_entries.specs.Entry.{semiMark}
 use Rattle.obj_entries.specs.declared.Entry.{Entry}
 use Rattle.sfx_layers.specs.Layers.{Layer, isObject, objectLayer}
-use Rattle.sfx_layers.specs.Code.{asBit, firstBit, secondBit, semiBit, layerTag, lineTag, objectTag, tagPriority, objectsBit, effectsBit, permitsPlace, regionWord}
+use Rattle.sfx_layers.specs.Code.{asBit, firstBit, secondBit, semiBit, layerTag, lineTag, objectTag, tagPriority}
+use Rattle.sfx_layers.specs.Code.{objectsBit, effectsBit, permitsPlace, regionWord}
 
 -- ---- bits
 
@@ -62,11 +63,13 @@ module _ (registers : List ℕ) (semi : Bool) where
   unfolding tagOf
   tag-plain l e = rw e (omega arith)
 
-  pub tag-object : (e : Entry) → semi ≡ semiMark e → objectTag (lineTag registers Objects 0) e ≡ tagOf registers semi (objectLayer e)
+  pub tag-object : (e : Entry) → semi ≡ semiMark e
+      → objectTag (lineTag registers Objects 0) e ≡ tagOf registers semi (objectLayer e)
   unfolding tagOf layerTag
   tag-object e semi-is = rw semi-is (mark (semiMark e) refl)
     where
-      mark : (t : Bool) → semiMark e ≡ t → objectTag (lineTag registers Objects 0) e ≡ lineTag registers Objects (e .priority) + 4 * asBit t
+      mark : (t : Bool) → semiMark e ≡ t
+          → objectTag (lineTag registers Objects 0) e ≡ lineTag registers Objects (e .priority) + 2 ^ semiBit * asBit t
       mark true t = omega (arith, eqb-true (e .marks / 1 % 2) 1 t)
       mark false t = omega (arith, eqb-false (e .marks / 1 % 2) 1 t)
 

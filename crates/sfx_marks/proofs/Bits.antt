@@ -1,6 +1,6 @@
 -- Laws of the bits of a word, and of the count of its ones. No contract cites this file. Assumes nothing.
 use mathlib.Core.Path.{_≡_, refl, sym, ap, ap₂, _∙_}
-use mathlib.Core.Bool.{Bool, true, false, cond, not, _&&_, _||_}
+use mathlib.Core.Bool.{Bool, false, cond, not, _&&_, _||_}
 use Prim.Native.Nat.{ℕ, zero, suc, _+_, _-_, _/_, _%_, _^_, _≤_, _<_, min, max}
 use native.Mathlib.Nat.{pow-suc}
 use native.Mathlib.Numerals.{one-add}
@@ -56,18 +56,22 @@ isSet-low n w i h =
 pub isSet-or : (a b i : ℕ) → isSet (bitOr a b) i ≡ (isSet a i || isSet b i)
 unfolding isSet
 isSet-or a b i =
-    let lowest : bitOr (a / 2 ^ i) (b / 2 ^ i) % 2 ≡ max (a / 2 ^ i % 2) (b / 2 ^ i % 2) = omega (arith, or-step (a / 2 ^ i) (b / 2 ^ i)) in
+    let v = a / 2 ^ i in
+    let w = b / 2 ^ i in
+    let lowest : bitOr v w % 2 ≡ max (v % 2) (w % 2) = omega (arith, or-step v w) in
     ap (λ (n : ℕ). eqb (n % 2) 1) (or-shr a b i)
     ∙ ap (λ (n : ℕ). eqb n 1) lowest
-    ∙ two-bits (λ x y. eqb (max x y) 1 ≡ (eqb x 1 || eqb y 1)) refl refl refl refl (a / 2 ^ i) (b / 2 ^ i)
+    ∙ two-bits (λ x y. eqb (max x y) 1 ≡ (eqb x 1 || eqb y 1)) refl refl refl refl v w
 
 pub isSet-and : (a b i : ℕ) → isSet (bitAnd a b) i ≡ (isSet a i && isSet b i)
 unfolding isSet
 isSet-and a b i =
-    let lowest : bitAnd (a / 2 ^ i) (b / 2 ^ i) % 2 ≡ min (a / 2 ^ i % 2) (b / 2 ^ i % 2) = omega (arith, and-step (a / 2 ^ i) (b / 2 ^ i)) in
+    let v = a / 2 ^ i in
+    let w = b / 2 ^ i in
+    let lowest : bitAnd v w % 2 ≡ min (v % 2) (w % 2) = omega (arith, and-step v w) in
     ap (λ (n : ℕ). eqb (n % 2) 1) (and-shr a b i)
     ∙ ap (λ (n : ℕ). eqb n 1) lowest
-    ∙ two-bits (λ x y. eqb (min x y) 1 ≡ (eqb x 1 && eqb y 1)) refl refl refl refl (a / 2 ^ i) (b / 2 ^ i)
+    ∙ two-bits (λ x y. eqb (min x y) 1 ≡ (eqb x 1 && eqb y 1)) refl refl refl refl v w
 
 -- The complement of a word of n bits has the others.
 pub isSet-not : (n a i : ℕ) → a < 2 ^ n → i < n → isSet ((2 ^ n - 1) - a) i ≡ not (isSet a i)

@@ -72,10 +72,10 @@ module _ (t u : ℕ → Bool) (a b c : ℕ) (near : a ≤ b) (far : b ≤ c) (sa
   between-after k (no h) (no l) =
       rw (le-leb b k (omega arith), le-leb a k (omega arith), le-ltb k c (omega arith), le-ltb k b (omega arith))
 
-  pub given-more : (other row₀ : List ℕ) {row row' : List ℕ}
+  pub given-more : (other row₀ : List ℕ) {row next : List ℕ}
       → row ≡ givenRow (λ k. between a b k && t k) other row₀
-      → row' ≡ givenRow (λ k. between b c k && u k) other row
-      → row' ≡ givenRow (λ k. between a c k && t k) other row₀
+      → next ≡ givenRow (λ k. between b c k && u k) other row
+      → next ≡ givenRow (λ k. between a c k && t k) other row₀
   given-more other row₀ e f =
       f
       ∙ ap (givenRow (λ k. between b c k && u k) other) e
@@ -126,11 +126,11 @@ module _ (other : List ℕ) (marks first end : ℕ) where
       }
 
   -- A turn, which gave n columns by the lowest marks that were left.
-  pub painted-more : (row₀ : List ℕ) (n : ℕ) {row row' : List ℕ} {left x : ℕ} → Painted other marks first end row₀ row left x
+  pub painted-more : (row₀ : List ℕ) (n : ℕ) {row next : List ℕ} {left x : ℕ} → Painted other marks first end row₀ row left x
       → x + n ≤ end
-      → row' ≡ givenRow (markedIn (left % 2 ^ n) x (x + n)) other row
-      → Painted other marks first end row₀ row' (left / 2 ^ n) (x + n)
-  painted-more row₀ n {row} {row'} {left} {x} p h e =
+      → next ≡ givenRow (markedIn (left % 2 ^ n) x (x + n)) other row
+      → Painted other marks first end row₀ next (left / 2 ^ n) (x + n)
+  painted-more row₀ n {row} {next} {left} {x} p h e =
       let from = p .from in
       let past : x - first + n ≡ x + n - first = omega arith in
       record {
@@ -166,9 +166,9 @@ module _ (other ws row₀ : List ℕ) where
   givenTo-none size = given-none other _ size (λ k. ap (λ (b : Bool). b && marked ws k) (between-none 0 k (decLt k 0)))
 
   -- One word more.
-  pub givenTo-more : (i end : ℕ) {row row' : List ℕ} → 64 * i ≤ end → end ≤ 64 * i + 64 → GivenTo (64 * i) row
-      → row' ≡ givenRow (markedIn (getD ws i 0) (64 * i) end) other row
-      → GivenTo end row'
+  pub givenTo-more : (i end : ℕ) {row next : List ℕ} → 64 * i ≤ end → end ≤ 64 * i + 64 → GivenTo (64 * i) row
+      → next ≡ givenRow (markedIn (getD ws i 0) (64 * i) end) other row
+      → GivenTo end next
   givenTo-more i end h u = given-more (marked ws) _ 0 (64 * i) end (omega arith) h same other row₀
     where
       same : (k : ℕ) → 64 * i ≤ k → k < end → isSet (getD ws i 0) (k - 64 * i) ≡ marked ws k

@@ -54,10 +54,10 @@ module _ (on : Bool) {t rows : Bool} (near far : ℕ) {l r : ℕ}
       }
 
 -- The columns that a window claims, by its registers: a window's rows, and the columns of the same or another.
-module _ (line : ℕ) {on enable : Bool} {h v h' v' flags flags' : ℕ} {rows columns : Window} (on-is : on ≡ enable)
-    (rows-are : WindowOf h v flags rows) (columns-are : WindowOf h' v' flags' columns) where
+module _ (line : ℕ) {on enable : Bool} {h₀ v₀ flags₀ h₁ v₁ flags₁ : ℕ} {rows columns : Window} (on-is : on ≡ enable)
+    (rows-are : WindowOf h₀ v₀ flags₀ rows) (columns-are : WindowOf h₁ v₁ flags₁ columns) where
   pub columnsOf-window : {c : Columns}
       → ColumnsOf (λ k. (on && inRows (rows .top) (rows .bottom) line) && inColumns (columns .left) (columns .right) k) c
-      → ColumnsOf (λ k. (enable && inRows (windowTop v) (windowBottom v) line) && inColumns (windowLeft h') (windowRight h') k) c
+      → ColumnsOf (λ k. (enable && inRows (windowTop v₀) (windowBottom v₀) line) && inColumns (windowLeft h₁) (windowRight h₁) k) c
   columnsOf-window p =
       columnsOf-cong p (λ k. rw (on-is, rows-are .top-is, rows-are .bottom-is, columns-are .left-is, columns-are .right-is))

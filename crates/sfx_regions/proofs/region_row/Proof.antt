@@ -1,4 +1,4 @@
--- sfx_regions::region_row meets its contract: the test is whether any window is on, and the walk goes over the columns of both windows.
+-- sfx_regions::region_row meets its contract: the test is whether any window is on, and the walk goes over both.
 -- Assumes nothing.
 use mathlib.Core.Path.{_∙_}
 use borrow.Author.Needs.{needs}

@@ -1,4 +1,4 @@
--- sfx_regions::win1_columns meets its contract: the rows are window 1's, and each reading's columns are the clause of window1Columns for it.
+-- sfx_regions::win1_columns meets its contract: the rows are window 1's, and the columns the clause of window1Columns.
 -- Assumes nothing.
 use borrow.Author.Needs.{needs}
 use Rattle.sfx_regions.specs.Region.{inWindow1, window1Columns}

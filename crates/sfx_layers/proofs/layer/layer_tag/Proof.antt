@@ -10,7 +10,8 @@ unfolding layerTag
 returns c =
     let second = c .before in
     let first = second .before in
-    rw (first .bit-of .ensures .0, first .before .contains-render-layer .ensures, c .bit-of2 .ensures .0, second .contains-render-layer2 .ensures)
+    rw (first .bit-of .ensures .0, first .before .contains-render-layer .ensures)
+    (rw (c .bit-of2 .ensures .0, second .contains-render-layer2 .ensures))
 
 pub layer-tag-spec : {M : Type 1} → statement M
 layer-tag-spec =

@@ -1,4 +1,4 @@
--- sfx_layers::layer::place_tag meets its contract: the test is that of placeTag, and its calls give the background's layer and priority.
+-- sfx_layers::layer::place_tag meets its contract: its calls give the background's layer and priority.
 -- Assumes nothing.
 use borrow.Author.Needs.{needs}
 use borrow.Author.Tests.{lt-ltb, le-ltb}
