@@ -16,7 +16,7 @@ use Rattle.regs.specs.Registers.{DISPCNT, BLDY}
 use Rattle.regs.specs.Display.{mode, forceBlank}
 use Rattle.obj_entries.specs.Entry.{entryCells, entriesSize, shapedRow, resetRow}
 use Rattle.obj_entries.proofs.Shapes.{shapedRow-reset}
-use Rattle.gpu_step.specs.References.{inRanges}
+use Rattle.bg_points.specs.References.{inRanges}
 use Rattle.gpu_judge.specs.Judge.{Call, haveLengths, verdict}
 use Rattle.gpu.specs.Line.{entriesAfter, lineAfter}
 use Rattle.gpu.specs.Draw.{Draws}
