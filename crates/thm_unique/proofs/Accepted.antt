@@ -38,7 +38,7 @@ pub given-accepted : (c : Call) (entries output : List ℕ) {n : ℕ} {entriesLe
     → verdict c entries output ≡ Accepted → Draws c entries output n entriesLeft outputLeft
     → (n ≡ 0) × (entriesLeft ≡ entriesAfter c entries) × (outputLeft ≡ lineAfter c (entriesAfter c entries))
 given-accepted c entries output accepted d =
-    draw-once c entries output d (draws-accepted c entries output accepted refl refl)
+    draw-once c entries output d (draws-accepted c entries output refl accepted refl refl)
 
 -- A row of well-shaped entries, and an output, of their lengths.
 pub record Lendable (entries output : List ℕ) : Type 0 where
