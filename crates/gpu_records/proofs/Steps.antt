@@ -30,7 +30,7 @@ module _ (bg2 bg3 : BgAffine) {s : Steps} {r : References} {a : Stepped} (s-is :
       → StepsRecords bg2 bg3 0 left2 left3
   unfolding stepRecords stepNumber referencesAfter
   steps-done to found left2-is left3-is =
-      let all = ranges-true to (stepped-ranges s r (sym a-is ∙ found)) in
+      let all = ranges-true to (stepped-ranges s r a-is found) in
       rw (
         asked ∙ found,
         left2-is,

@@ -2,11 +2,12 @@
 use Prim.Native.Nat.{ℕ, _+_, _-_, _^_, _≤_, _<_}
 use native.Mathlib.Omega.{arith}
 use mathlib.Core.Path.{_≡_, sym, ap₂, _∙_}
-use mathlib.Core.Bool.{Bool, true, false, cond}
+use mathlib.Core.Bool.{Bool, true, false, not}
 use lib.IntN.{ℤ, subℕ, _+ℤ_}
 use lib.Signed.{mag}
 use mir.Syntax.{w16, w32}
 use mir.Val.{toZ, ofZ}
+use borrow.Author.Tests.{not-true, not-false}
 use Rattle.signed.specs.Signed.{inRange, signed32}
 use Rattle.signed.proofs.Bias.{raised, raised-bound, subℕ-raised}
 use Rattle.signed.proofs.Difference.{subℕ-cross, add-subℕ}
@@ -40,26 +41,26 @@ signed32-less w h = subℕ-cross (w - 2 ^ 31) (2 ^ 31) w (2 ^ 32) (omega arith) 
 
 -- ---- the step of all four
 
--- A number in range is read back as it was.
+-- A number in range is read back as it was, and found in range.
 pub read-range : (z : ℤ) → inRange z ≡ true → toZ w32 (ofZ w32 z) ≡ z
 read-range z h = word-read z (omega (arith, mag-inRange z h))
 
--- So each of four in range is found in range.
-module _ (r : References) (h : inRanges r ≡ true) where
-  found : (z : ℤ) → inRange z ≡ true → inRange (toZ w32 (ofZ w32 z)) ≡ true
-  found z z-in = rw (read-range z z-in) z-in
+pub found-range : (z : ℤ) → inRange z ≡ true → inRange (toZ w32 (ofZ w32 z)) ≡ true
+found-range z z-in = rw (read-range z z-in) z-in
 
+-- So is each of four.
+module _ (r : References) (h : inRanges r ≡ true) where
   pub x2-found : inRange (toZ w32 (ofZ w32 (r .x2))) ≡ true
-  x2-found = found _ (ranges-true r h .x2-in)
+  x2-found = found-range _ (ranges-true r h .x2-in)
 
   pub y2-found : inRange (toZ w32 (ofZ w32 (r .y2))) ≡ true
-  y2-found = found _ (ranges-true r h .y2-in)
+  y2-found = found-range _ (ranges-true r h .y2-in)
 
   pub x3-found : inRange (toZ w32 (ofZ w32 (r .x3))) ≡ true
-  x3-found = found _ (ranges-true r h .x3-in)
+  x3-found = found-range _ (ranges-true r h .x3-in)
 
   pub y3-found : inRange (toZ w32 (ofZ w32 (r .y3))) ≡ true
-  y3-found = found _ (ranges-true r h .y3-in)
+  y3-found = found-range _ (ranges-true r h .y3-in)
 
 -- A sum as the machine has it.
 pub added : {r : ℤ} (z p : ℤ) → inRange z ≡ true → mag p < 2 ^ 15 → r ≡ toZ w32 (ofZ w32 z) +ℤ toZ w16 (ofZ w16 p)
@@ -75,12 +76,22 @@ module _ (s : Steps) (r : References) where
   unfolding sums
   sums-are x2-is y2-is x3-is y3-is = rw (x2-is, y2-is, x3-is, y3-is)
 
-  pub stepped-not : inRanges r ≡ false → Stepped.Refused ≡ stepped s r
-  unfolding stepped
-  stepped-not h = rw h
+-- ---- the step
 
-  -- t is what is found of the sums.
-  pub stepped-by : (t : Bool) {to : References} → inRanges r ≡ true → to ≡ sums s r → inRanges to ≡ t
-      → cond t (Stepped.To to) Stepped.Refused ≡ stepped s r
+-- What the first test of the four tells.
+pub ranges-found : {t : Bool} (r : References) → t ≡ inRanges r → not t ≡ false → inRanges r ≡ true
+ranges-found r t-is n = sym t-is ∙ not-false _ n
+
+module _ (s : Steps) (r : References) {t : Bool} (t-is : t ≡ inRanges r) where
+  pub stepped-not : not t ≡ true → Stepped.Refused ≡ stepped s r
   unfolding stepped
-  stepped-by t h to-is t-is = rw (h, sym t-is, to-is)
+  stepped-not n = rw (sym t-is ∙ not-true _ n)
+
+  module _ (n : not t ≡ false) {to : References} (to-is : to ≡ sums s r) {u : Bool} (u-is : u ≡ inRanges to) where
+    pub stepped-to : u ≡ true → Stepped.To to ≡ stepped s r
+    unfolding stepped
+    stepped-to in-range = rw (ranges-found r t-is n, sym to-is, sym u-is, in-range)
+
+    pub stepped-out : u ≡ false → Stepped.Refused ≡ stepped s r
+    unfolding stepped
+    stepped-out out = rw (ranges-found r t-is n, sym to-is, sym u-is, out)

@@ -30,9 +30,10 @@ unfolding referencesIn
 referencesIn-is bytes e2 f2 e3 f3 = rw (e2, f2, e3, f3)
 
 -- What is stepped to is in range.
-pub stepped-ranges : (s : Steps) (r : References) {to : References} → stepped s r ≡ Stepped.To to → inRanges to ≡ true
+pub stepped-ranges : (s : Steps) (r : References) {a : Stepped} {to : References} → a ≡ stepped s r → a ≡ Stepped.To to
+    → inRanges to ≡ true
 unfolding stepped stepNumber referencesAfter
-stepped-ranges s r e = go (inRanges r) (inRanges (sums s r)) refl e
+stepped-ranges s r a-is found = go (inRanges r) (inRanges (sums s r)) refl (sym a-is ∙ found)
   where
     go : {to : References} (t u : Bool) → inRanges (sums s r) ≡ u
         → cond (t && u) (Stepped.To (sums s r)) Stepped.Refused ≡ Stepped.To to → inRanges to ≡ true
@@ -41,19 +42,23 @@ stepped-ranges s r e = go (inRanges r) (inRanges (sums s r)) refl e
     go false u u-is same = absurd (let n : _≡_ {A = ℕ} 6 0 = ap stepNumber same in omega arith)
 
 module _ (s : Steps) (bytes : List ℕ) where
-  pub step-refused-length : (length bytes ≡ referencesSize → ⊥) → StepsTo s bytes 2 bytes
+  pub step-length : (length bytes ≡ referencesSize → ⊥) → StepsTo s bytes 2 bytes
   unfolding step
-  step-refused-length n = rw (ne-eqb (length bytes) referencesSize n)
+  step-length n = rw (ne-eqb (length bytes) referencesSize n)
 
-  module _ (l : length bytes ≡ referencesSize) where
-    pub step-refused : stepped s (referencesIn bytes) ≡ Stepped.Refused → StepsTo s bytes 6 bytes
-    unfolding step bytesAfter stepNumber
-    step-refused e = rw (eq-eqb (length bytes) referencesSize l, e)
+  -- The four numbers r and the answer a as code found them.
+  module _ (l : length bytes ≡ referencesSize) {r : References} {a : Stepped} (r-is : r ≡ referencesIn bytes)
+      (a-is : a ≡ stepped s r) where
+    asked : stepped s (referencesIn bytes) ≡ a
+    asked = rw (sym r-is) (sym a-is)
 
-    pub step-done : {left : List ℕ} {to : References} → stepped s (referencesIn bytes) ≡ Stepped.To to → left ≡ bytesOf to
-        → StepsTo s bytes 0 left
+    pub step-refused : a ≡ Stepped.Refused → StepsTo s bytes 6 bytes
     unfolding step bytesAfter stepNumber
-    step-done e left-is = rw (eq-eqb (length bytes) referencesSize l, e, left-is)
+    step-refused found = rw (eq-eqb (length bytes) referencesSize l, asked ∙ found)
+
+    pub step-done : {left : List ℕ} {to : References} → a ≡ Stepped.To to → left ≡ bytesOf to → StepsTo s bytes 0 left
+    unfolding step bytesAfter stepNumber
+    step-done found left-is = rw (eq-eqb (length bytes) referencesSize l, asked ∙ found, left-is)
 
 -- Four numbers in range put one after another are the bytes of the four.
 pub bytesOf-puts : (r : References) (l : List ℕ) {l1 l2 l3 l4 : List ℕ} → length l ≡ referencesSize → inRanges r ≡ true

@@ -10,8 +10,7 @@ use Rattle.obj.specs.Order.{Pixel, Wins}
 use Rattle.obj.proofs.Before.{wins-once}
 use Rattle.obj_entries.proofs.Shapes.{shapedRow-reset}
 use Rattle.thm_order.specs.Draws.{Attempt, rowAfter, pixelsPut, windowPut, Demand3}
-use Rattle.thm_order.proofs.Verdicts.{number-shaped}
-use Rattle.thm_order.proofs.Rows.{length-draws, shapedRow-draws}
+use Rattle.thm_order.proofs.Rows.{number-shaped, length-draws, shapedRow-draws}
 use Rattle.thm_order.proofs.Columns.{held-reset, held-draws, window-draws}
 
 -- Demand 3: the winner of all pixels put, the window mark, and no refusal for an ill-shaped entry.
@@ -23,7 +22,7 @@ demand-3 draws =
       window = λ column column<.
           window-draws column column< draws resetRow
           ∙ ap (λ e. windowMark e || windowPut draws resetRow column) (cellAt-rowOf entryCells _ 240 column column<);
-      never-7 = λ next. number-shaped (next .call) _ (next .output) (shapedRow-draws draws resetRow shapedRow-reset);
+      never-7 = λ next. number-shaped next _ (shapedRow-draws draws resetRow shapedRow-reset);
     }
 
 -- The pixels put at a column have one winner.

@@ -1,7 +1,8 @@
 -- Laws of what one draw, and draws one after another, make of a row. No contract cites this file. Assumes nothing.
 use Prim.Native.Nat.{ℕ}
-use mathlib.Core.Path.{_≡_, refl, ap, _∙_}
-use mathlib.Core.Bool.{Bool, true, false, cond, not, _&&_, and-true, and-false}
+use native.Mathlib.Omega.{arith}
+use mathlib.Core.Path.{_≡_, refl, sym, ap, _∙_}
+use mathlib.Core.Bool.{Bool, true, false, cond, not, _&&_, and-true, and-false, true≢false}
 use mathlib.Core.List.{List, [], _∷_}
 use mathlib.Core.Logic.{_≢_}
 use lib.Dec.{eqb}
@@ -19,7 +20,7 @@ use Rattle.gpu_judge.specs.Judge.{numberOf}
 use Rattle.gpu.specs.Line.{entriesAfter}
 use Rattle.gpu.specs.Draw.{given, draw}
 use Rattle.thm_order.specs.Draws.{Attempt, rowLeft, numberGiven, rowAfter, putsPixels}
-use Rattle.thm_order.proofs.Verdicts.{verdict-cases}
+use Rattle.gpu_judge.proofs.Verdicts.{verdict-cases}
 
 -- What a draw's sprites make of a row.
 abbrev pub spriteRow : Attempt → List ℕ → List ℕ
@@ -39,10 +40,10 @@ module _ (a : Attempt) (row : List ℕ) where
       after .entries
       ≡ cond (eqb (after .number) 0 && enableObj control && not (forceBlank control)) (spriteRow a row) row)
       refl refl refl
-      (λ blank. rw (blank, and-false (enableObj control)))
+      (λ blank _. rw (blank, and-false (enableObj control)))
       refl refl refl
       (λ _. refl)
-      (λ lit. rw (lit, and-true (enableObj control)))
+      (λ lit _. rw (lit, and-true (enableObj control)))
 
   -- A draw that puts no pixels leaves the row as it is.
   pub idle-draw : putsPixels a row ≡ false → rowLeft a row ≡ row
@@ -62,6 +63,16 @@ module _ (a : Attempt) (row : List ℕ) where
   pub idle-blank : forceBlank control ≡ true → putsPixels a row ≡ false
   unfolding putsPixels
   idle-blank blank = rw blank (and-false (eqb (numberGiven a row) 0 && enableObj control))
+
+  -- A draw on a row of well-shaped entries isn't refused for one.
+  pub number-shaped : shapedRow row ≡ true → numberGiven a row ≢ 7
+  unfolding draw given numberOf
+  number-shaped shaped =
+      verdict-cases (a .call) row (a .output) (λ v. given v (a .call) row (a .output) .number ≢ 7)
+      (λ e. omega arith) (λ e. omega arith) (λ e. omega arith) (λ _ _ e. omega arith)
+      (λ e. omega arith) (λ e. omega arith) (λ e. omega arith)
+      (λ ill e. true≢false (sym shaped ∙ ill))
+      (λ _ _ e. omega arith)
 
   -- What holds of the row, and of what the sprites make of it, holds of the row that the draw leaves.
   rowLeft-cases : (P : List ℕ → Type 0) → P (spriteRow a row) → P row → P (rowLeft a row)

@@ -24,7 +24,7 @@ use Rattle.gpu_judge.specs.Judge.{Call, numberOf}
 use Rattle.gpu.specs.Draw.{given, draw}
 use Rattle.thm_order.specs.Draws.{Attempt, rowLeft, rowAfter, putsPixels}
 use Rattle.thm_order.proofs.Rows.{spriteRow, rowLeft-is}
-use Rattle.thm_order.proofs.Verdicts.{verdict-cases}
+use Rattle.gpu_judge.proofs.Verdicts.{verdict-cases}
 use Rattle.gpu_records.specs.Entries.{entryOfRecord, recordOf, resetRecord, rowBytes, recordsIn}
 use Rattle.gpu_records.specs.declared.entry.ObjBufferEntry.{ObjBufferEntry}
 use Rattle.gpu_records.proofs.Rows.{entryAt, rowBytes-is}
@@ -119,10 +119,10 @@ records-left c row output =
     cond (writes (given v c row output .number) (c .memory .registers)) (recordsIn (given v c row output .entries)) (recordsIn row)
     ≡ recordsIn (given v c row output .entries))
     refl refl refl
-    (λ blank. rw blank)
+    (λ blank _. rw blank)
     refl refl refl
     (λ _. refl)
-    (λ lit. rw lit)
+    (λ lit _. rw lit)
 
 records-draw : (a : Attempt) (row : List ℕ) → Kept row
     → drawRecords (a .call) (recordsIn row) (a .output) .records ≡ recordsIn (rowLeft a row)

@@ -1,8 +1,8 @@
 -- What the draws give is what their tables give. No contract cites this file. Assumes nothing.
 use Prim.Native.Nat.{ℕ}
 use native.Mathlib.Omega.{arith}
-use mathlib.Core.Path.{_≡_, refl, ap, _∙_}
-use mathlib.Core.Bool.{Bool, true, false, cond, not}
+use mathlib.Core.Path.{_≡_, refl, sym, ap, _∙_}
+use mathlib.Core.Bool.{Bool, true, false, cond, not, true≢false}
 use mathlib.Core.List.{List}
 use mathlib.Core.Logic.{_≢_}
 use lib.Dec.{leb, ltb}
@@ -10,7 +10,6 @@ use Rattle.memory.specs.Sizes.{displayHeight}
 use Rattle.regs.specs.Registers.{dispcnt}
 use Rattle.regs.specs.Display.{forceBlank}
 use Rattle.gpu_judge.specs.Judge.{Call, blankOff, haveLengths, verdict, numberOf}
-use Rattle.gpu_judge.specs.declared.Verdict.{Verdict}
 use Rattle.gpu_judge.specs.declared.Verdict.the-variants.{
   BadReading,
   BadLength,
@@ -22,6 +21,7 @@ use Rattle.gpu_judge.specs.declared.Verdict.the-variants.{
   Blank,
   Accepted,
 }
+use Rattle.gpu_judge.proofs.Verdicts.{verdict-cases}
 use Rattle.gpu.specs.Line.{blankLine}
 use Rattle.gpu.specs.Draw.{given, draw}
 use Rattle.thm_refusals.specs.Table.{rowAt, NoneOf}
@@ -54,45 +54,33 @@ module _ (c : Call) (entries output : List ℕ) where
       t : ℕ → Bool
       t i = rowAt (bytesTable c entries output) i .applies
 
-  -- A verdict whose number isn't 0 leaves the entries and the output.
-  given-refused : (v : Verdict) → given v c entries output .number ≢ 0
-      → (given v c entries output .entries ≡ entries) × (given v c entries output .output ≡ output)
-  unfolding given numberOf
-  given-refused BadReading n = (refl, refl)
-  given-refused BadLength n = (refl, refl)
-  given-refused BadLine n = (refl, refl)
-  given-refused BadMode n = (refl, refl)
-  given-refused BadBldy n = (refl, refl)
-  given-refused BadReference n = (refl, refl)
-  given-refused BadEntry n = (refl, refl)
-  given-refused Blank n = absurd (n refl)
-  given-refused Accepted n = absurd (n refl)
-
+  -- A draw whose number isn't 0 leaves the entries and the output.
   pub draw-refused : draw c entries output .number ≢ 0
       → (draw c entries output .entries ≡ entries) × (draw c entries output .output ≡ output)
-  unfolding draw
-  draw-refused n = given-refused (verdict c entries output) n
+  unfolding draw given numberOf
+  draw-refused =
+      verdict-cases c entries output
+      (λ v.
+      let d = given v c entries output in
+      d .number ≢ 0 → (d .entries ≡ entries) × (d .output ≡ output))
+      (λ _. (refl, refl)) (λ _. (refl, refl)) (λ _. (refl, refl)) (λ _ _ n. absurd (n refl))
+      (λ _. (refl, refl)) (λ _. (refl, refl)) (λ _. (refl, refl)) (λ _ _. (refl, refl))
+      (λ _ _ n. absurd (n refl))
 
   module _ (on : forceBlank (dispcnt (c .memory .registers)) ≡ true) where
+    pub draw-keeps : draw c entries output .entries ≡ entries
+    unfolding draw given
+    draw-keeps =
+        verdict-cases c entries output (λ v. given v c entries output .entries ≡ entries)
+        refl refl refl (λ _ _. refl) refl refl refl (λ _. refl)
+        (λ off _. absurd (true≢false (sym on ∙ off)))
+
     -- Forced blank is stopped by the first three tests only.
     verdict-blank : verdict c entries output
         ≡ cond (ltb 1 (c .reading)) BadReading
         (cond (not (haveLengths (c .memory) entries output)) BadLength (cond (leb displayHeight (c .line)) BadLine Blank))
     unfolding verdict
     verdict-blank = rw on
-
-    pub draw-keeps : draw c entries output .entries ≡ entries
-    unfolding draw given
-    draw-keeps =
-        rw verdict-blank
-        (go (ltb 1 (c .reading)) (not (haveLengths (c .memory) entries output)) (leb displayHeight (c .line)))
-      where
-        go : (reading length line : Bool)
-            → given (cond reading BadReading (cond length BadLength (cond line BadLine Blank))) c entries output .entries ≡ entries
-        go true l i = refl
-        go false true i = refl
-        go false false true = refl
-        go false false false = refl
 
     pub draw-blank : NoneOf 3 (bytesTable c entries output)
         → (draw c entries output .number ≡ 0) × (draw c entries output .output ≡ blankLine)

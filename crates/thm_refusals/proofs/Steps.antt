@@ -4,13 +4,13 @@ use mathlib.Core.Bool.{Bool, true, false, cond, not, _&&_, _||_}
 use mathlib.Core.List.{List, [], _∷_}
 use mathlib.Core.Logic.{_≢_}
 use lib.Dec.{eqb}
-use lib.IntN.{ℤ}
 use lib.ListN.{length}
 use Prim.Native.Nat.{ℕ}
-use Rattle.gpu_step.specs.References.{inRanges}
+use Rattle.bg_points.specs.References.{inRanges}
+use Rattle.bg_points.specs.declared.references.References.{References}
 use Rattle.rows.specs.Answer.{Answer}
-use Rattle.gpu_step.specs.Step.{Steps, sums, stepped, stepNumber, referencesAfter, referencesSize, referencesIn}
-use Rattle.gpu_step.specs.Step.{bytesAfter, step}
+use Rattle.gpu_step.specs.declared.Steps.{Steps}
+use Rattle.gpu_step.specs.Step.{sums, stepped, stepNumber, referencesAfter, referencesSize, referencesIn, bytesAfter, step}
 use Rattle.gpu_step.specs.declared.Stepped.{Stepped}
 use Rattle.obj_entries.specs.Entry.{entriesSize, resetRow}
 use Rattle.obj_entries.specs.Reset.{reset}
@@ -39,17 +39,17 @@ unfolding step stepped bytesAfter stepNumber
 step-fits s bytes =
     let four = referencesIn bytes in
     let to = sums s four in
-    go (to .x2) (to .y2) (to .x3) (to .y3) (eqb (length bytes) referencesSize) (inRanges four) (inRanges to)
+    go to (eqb (length bytes) referencesSize) (inRanges four) (inRanges to)
   where
-    go : (x2 y2 x3 y3 : ℤ) (sized before after : Bool)
-        → let answer = cond (before && after) (Stepped.To x2 y2 x3 y3) Stepped.Refused in
+    go : (to : References) (sized before after : Bool)
+        → let answer = cond (before && after) (Stepped.To to) Stepped.Refused in
         Fits (row 2 (not sized) ∷ row 6 (not before || not after) ∷ []) bytes
         (cond (not sized) (record { number = 2; bytes = bytes })
         (record { number = stepNumber answer; bytes = bytesAfter answer bytes }))
-    go x2 y2 x3 y3 false before after = (refl, λ _. refl)
-    go x2 y2 x3 y3 true false after = (refl, λ _. refl)
-    go x2 y2 x3 y3 true true false = (refl, λ _. refl)
-    go x2 y2 x3 y3 true true true = (refl, λ n. absurd (n refl))
+    go to false before after = (refl, λ _. refl)
+    go to true false after = (refl, λ _. refl)
+    go to true true false = (refl, λ _. refl)
+    go to true true true = (refl, λ n. absurd (n refl))
 
 module _ (bg2 bg3 : BgAffine) where
   -- The same of the records, for each answer of the step on numbers.
@@ -65,10 +65,10 @@ module _ (bg2 bg3 : BgAffine) where
   pair-fits =
       let four = referencesOf bg2 bg3 in
       let to = sums (stepsOf bg2 bg3) four in
-      go (to .x2) (to .y2) (to .x3) (to .y3) (inRanges four) (inRanges to)
+      go to (inRanges four) (inRanges to)
     where
-      go : (x2 y2 x3 y3 : ℤ) (before after : Bool)
-          → FitsPair (row 6 (not before || not after) ∷ []) (cond (before && after) (Stepped.To x2 y2 x3 y3) Stepped.Refused)
-      go x2 y2 x3 y3 false after = (refl, λ _. (refl, refl))
-      go x2 y2 x3 y3 true false = (refl, λ _. (refl, refl))
-      go x2 y2 x3 y3 true true = (refl, λ n. absurd (n refl))
+      go : (to : References) (before after : Bool)
+          → FitsPair (row 6 (not before || not after) ∷ []) (cond (before && after) (Stepped.To to) Stepped.Refused)
+      go to false after = (refl, λ _. (refl, refl))
+      go to true false = (refl, λ _. (refl, refl))
+      go to true true = (refl, λ n. absurd (n refl))

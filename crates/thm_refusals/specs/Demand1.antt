@@ -11,14 +11,16 @@ use lib.Dec.{eqb, leb, ltb}
 use lib.ListN.{length, getD}
 use Rattle.rows.specs.Below.{allBelow}
 use Rattle.memory.specs.Memory.{Memory}
-use Rattle.memory.specs.Sizes.{videoRamSize, paletteRamSize, oamSize, registersSize, displayWidth, displayHeight, outputSize}
+use Rattle.memory.specs.Sizes.{displayWidth, displayHeight, outputSize}
 use Rattle.regs.specs.Registers.{dispcnt, bldy}
 use Rattle.regs.specs.Display.{mode, forceBlank}
-use Rattle.gpu_step.specs.References.{References, inRanges}
-use Rattle.gpu_step.specs.Step.{Steps, sums, referencesSize, referencesIn, StepsTo}
+use Rattle.bg_points.specs.References.{inRanges}
+use Rattle.bg_points.specs.declared.references.References.{References}
+use Rattle.gpu_step.specs.declared.Steps.{Steps}
+use Rattle.gpu_step.specs.Step.{sums, referencesSize, referencesIn, StepsTo}
 use Rattle.obj_entries.specs.Entry.{entriesSize, wellShaped, shapedRow}
 use Rattle.obj_entries.specs.Reset.{Resets}
-use Rattle.gpu_judge.specs.Judge.{Call, blankOff, haveLengths}
+use Rattle.gpu_judge.specs.Judge.{Call, blankOff, memoryLengths, haveLengths}
 use Rattle.gpu.specs.Line.{blankLine}
 use Rattle.gpu.specs.Draw.{Draws}
 use Rattle.gpu_records.specs.Step.{stepsOf, referencesOf, StepsRecords}
@@ -49,13 +51,7 @@ bytesTable c entries output = drawTable c (haveLengths (c .memory) entries outpu
 
 -- Whether each buffer of a draw over records has its length, the row being of 240.
 unfoldable pub recordLengths : Memory → List ObjBufferEntry → List ℕ → Bool
-recordLengths m records output =
-    eqb (length (m .vram)) videoRamSize
-    && eqb (length (m .palette)) paletteRamSize
-    && eqb (length (m .oam)) oamSize
-    && eqb (length (m .registers)) registersSize
-    && eqb (length records) displayWidth
-    && eqb (length output) outputSize
+recordLengths m records output = memoryLengths m && eqb (length records) displayWidth && eqb (length output) outputSize
 
 -- Whether each of a row's 240 records stands for a well-shaped entry.
 abbrev pub shapedRecords : List ObjBufferEntry → Bool

@@ -16,7 +16,7 @@ use Rattle.regs.specs.Registers.{DISPCNT, BLDY}
 use Rattle.regs.specs.Display.{mode, forceBlank}
 use Rattle.obj_entries.specs.Entry.{entryCells, entriesSize, shapedRow, resetRow}
 use Rattle.obj_entries.proofs.Shapes.{shapedRow-reset}
-use Rattle.gpu_step.specs.References.{inRanges}
+use Rattle.bg_points.specs.References.{inRanges}
 use Rattle.gpu_judge.specs.Judge.{Call, haveLengths, verdict}
 use Rattle.gpu.specs.Line.{entriesAfter, lineAfter}
 use Rattle.gpu.specs.Draw.{Draws}
@@ -38,7 +38,7 @@ pub given-accepted : (c : Call) (entries output : List ℕ) {n : ℕ} {entriesLe
     → verdict c entries output ≡ Accepted → Draws c entries output n entriesLeft outputLeft
     → (n ≡ 0) × (entriesLeft ≡ entriesAfter c entries) × (outputLeft ≡ lineAfter c (entriesAfter c entries))
 given-accepted c entries output accepted d =
-    draw-once c entries output d (draws-accepted c entries output accepted refl refl)
+    draw-once c entries output d (draws-accepted c entries output refl accepted refl refl)
 
 -- A row of well-shaped entries, and an output, of their lengths.
 pub record Lendable (entries output : List ℕ) : Type 0 where

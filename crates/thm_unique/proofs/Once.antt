@@ -7,7 +7,8 @@ use Rattle.gpu_judge.specs.Judge.{Call}
 use Rattle.gpu.specs.Draw.{Drawing, draw, Draws}
 use Rattle.rows.specs.Answer.{Answer}
 use Rattle.obj_entries.specs.Reset.{reset, Resets}
-use Rattle.gpu_step.specs.Step.{Steps, step, StepsTo}
+use Rattle.gpu_step.specs.declared.Steps.{Steps}
+use Rattle.gpu_step.specs.Step.{step, StepsTo}
 
 -- ---- the draw
 

@@ -23,7 +23,7 @@ cornerSprites p = tab (λ k. cond (eqb (k % 8) 5) (4 * p) 0) oamSize
 
 -- A draw of line 0 under R, with the reference numbers 0.
 abbrev pub firstLine : List ℕ → List ℕ → List ℕ → List ℕ → Call
-firstLine vram palette oam registers = callOf 0 0 (pos 0) (pos 0) (pos 0) (pos 0) vram palette oam registers
+firstLine vram palette oam registers = callOf 0 0 (record { x2 = pos 0; y2 = pos 0; x3 = pos 0; y3 = pos 0 }) vram palette oam registers
 
 -- Mode 0 with nothing on and a black backdrop.
 abbrev pub dark : Call
