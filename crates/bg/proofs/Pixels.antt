@@ -19,9 +19,9 @@ use Rattle.bg_points.specs.Code.{coordinate}
 use Rattle.bg_points.specs.Point.{transformBgPoint, pointColor}
 use Rattle.bg_points.specs.declared.ViewPort.{ViewPort}
 use Rattle.bg_points.proofs.Points.{point-is}
-use Rattle.bg.specs.Bitmap.{BitmapViewPort, bitmapStart, bitmapPixel, bitmapColor}
+use Rattle.bg.specs.Bitmap.{bitmapStart, bitmapPixel, bitmapColor}
 use Rattle.bg.specs.Affine.{affineSide, affineTile, affinePixel, affineBgColor}
-use Rattle.bg.specs.Code.{LiftedOf, BitmapSides}
+use Rattle.bg.specs.Code.{LiftedOf, BitmapViewPort, BitmapSides}
 use Rattle.bg.specs.declared.steps.BgAffine.{BgAffine}
 use Rattle.bg.specs.declared.steps.Lifted.{Lifted}
 

@@ -2,15 +2,13 @@
 -- "LCD VRAM Overview, Character Data, BG Screen Data Format"). The line counts through the reference numbers.
 -- Assumes nothing.
 use Prim.Native.Nat.{ℕ, _+_, _*_}
-use mathlib.Core.Path.{_≡_}
-use mathlib.Core.Bool.{Bool, cond}
+use mathlib.Core.Bool.{cond}
 use mathlib.Core.List.{List}
 use lib.Dec.{eqb}
 use lib.IntN.{ℤ}
 use Rattle.memory.specs.Memory.{byte, half}
 use Rattle.memory.specs.Palette.{paletteColor}
 use Rattle.regs.specs.Background.{affineWraparound}
-use Rattle.bg_points.specs.declared.ViewPort.{ViewPort}
 use Rattle.bg_points.specs.Point.{transformBgPoint, pointColor}
 
 -- 3 and 4 are 240 wide, 5 is 160 (LCD I/O Display Control).
@@ -20,12 +18,6 @@ bitmapWidth mode = cond (eqb mode 5) 160 240
 -- 3 and 4 are 160 high, 5 is 128 (LCD I/O Display Control).
 abbrev pub bitmapHeight : ℕ → ℕ
 bitmapHeight mode = cond (eqb mode 5) 128 160
-
--- A mode's picture has its width and height, and repeats if the wrap bit is set.
-pub record BitmapViewPort (mode : ℕ) (wraparound : Bool) (v : ViewPort) : Type 0 where
-  pub w-is : v .w ≡ bitmapWidth mode
-  pub h-is : v .h ≡ bitmapHeight mode
-  pub wraparound-is : v .wraparound ≡ wraparound
 
 -- Modes 4 and 5 start at 0xa000 when the frame bit is set (LCD VRAM Overview).
 abbrev pub bitmapStart : ℕ → ℕ → ℕ

@@ -3,7 +3,7 @@
 -- No exported contract reaches this file. Assumes nothing.
 use Prim.Native.Nat.{ℕ, _^_, _≤_, _<_}
 use mathlib.Core.Path.{_≡_}
-use mathlib.Core.Bool.{true}
+use mathlib.Core.Bool.{Bool, true}
 use mathlib.Core.List.{List}
 use lib.IntN.{subℕ}
 use lib.ListN.{length}
@@ -16,6 +16,7 @@ use Rattle.bg_points.specs.Code.{Side}
 use Rattle.bg_points.specs.References.{inRanges}
 use Rattle.bg_points.specs.declared.ViewPort.{ViewPort}
 use Rattle.bg_points.specs.declared.references.References.{References}
+use Rattle.bg.specs.Bitmap.{bitmapWidth, bitmapHeight}
 use Rattle.bg.specs.Background.{referenceX, referenceY}
 use Rattle.bg.specs.declared.steps.BgAffine.{BgAffine}
 use Rattle.bg.specs.declared.steps.Lifted.{Lifted}
@@ -76,6 +77,12 @@ pub record BitmapLine (vram palette : List ℕ) (frame : ℕ) (a : BgAffine) : T
   pub lent : Lent vram palette
   pub frame< : frame < 2
   pub liftable : Liftable a
+
+-- A mode's picture has its width and height, and repeats if the wrap bit is set.
+pub record BitmapViewPort (mode : ℕ) (wraparound : Bool) (v : ViewPort) : Type 0 where
+  pub w-is : v .w ≡ bitmapWidth mode
+  pub h-is : v .h ≡ bitmapHeight mode
+  pub wraparound-is : v .wraparound ≡ wraparound
 
 -- A bitmap's frame starts in video memory.
 pub record BitmapPage (vram palette : List ℕ) (page : ℕ) : Type 0 where

@@ -84,8 +84,7 @@ fn turn_start(p: usize, q: usize, half_width: usize, half_height: usize, row: us
 
 pub fn turn_line(oam: &[u8], attrs: ObjAttrs, reading: Reading, line: usize) -> Turn
     requires { ⌜ TurnLine (now oam) attrs reading line ⌝ }
-    ensures { λ t.
-        ⌜ TurnOf (matrix (now (oam .entry)) (attrs .«affine_index»)) attrs
+    ensures { λ t. ⌜ TurnOf (matrix (now (oam .entry)) (attrs .«affine_index»)) attrs
         (below reading attrs line -ℤ pos (boxHeight attrs / 2)) t ⌝ }
 {
     let matrix = get_affine_matrix(oam, attrs.affine_index);
@@ -127,8 +126,7 @@ fn point_color(
     i: usize,
 ) -> Rgb15
     requires { ⌜ Turned (now vram) (now palette) attrs turn × (i ≤ 127) ⌝ }
-    ensures { λ c.
-        ⌜ c .0 ≡ pointColor reading mapping (now (vram .entry)) (now (palette .entry)) attrs turn i ⌝ }
+    ensures { λ c. ⌜ c .0 ≡ pointColor reading mapping (now (vram .entry)) (now (palette .entry)) attrs turn i ⌝ }
 {
     let width = attrs.width;
     let height = attrs.height;
@@ -155,14 +153,8 @@ pub fn affine_row(
     to: usize,
 ) -> [Rgb15; BOX_COLUMNS]
     requires { ⌜ TurnedRow (now vram) (now palette) attrs turn from to ⌝ }
-    ensures { λ r.
-        ⌜ r
-        ≡ tab
-        (λ i.
-        rgb
-        (affineTexel reading mapping (now (vram .entry)) (now (palette .entry)) attrs turn from to
-        i))
-        128 ⌝ }
+    ensures { λ r. ⌜ r ≡ tab (λ i. rgb (affineTexel reading mapping (now (vram .entry)) (now (palette .entry)) attrs turn
+        from to i)) 128 ⌝ }
 {
     let mut row = [Rgb15::TRANSPARENT; BOX_COLUMNS];
     let mut i = from;

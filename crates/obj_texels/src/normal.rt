@@ -33,14 +33,8 @@ fn tile_row(
     flipped: bool,
 ) -> [Rgb15; TILE_SIDE]
     requires { ⌜ ColorRow (now vram) (now palette) 0x200 «tile_addr» y format bank ⌝ }
-    ensures { λ r.
-        ⌜ r
-        ≡ tab
-        (λ x.
-        rgb
-        (paletteColor (now (palette .entry)) 0x200
-        (tilePixel (now (vram .entry)) «tile_addr» (flip flipped 8 x) y format) bank))
-        8 ⌝ }
+    ensures { λ r. ⌜ r ≡ tab (λ x. rgb (paletteColor (now (palette .entry)) 0x200
+        (tilePixel (now (vram .entry)) «tile_addr» (flip flipped 8 x) y format) bank)) 8 ⌝ }
 {
     let row = [
         tile_color(vram, palette, PALRAM_OFS_FG, tile_addr, 0, y, format, bank),
@@ -66,14 +60,8 @@ fn shown_tile(
     t: usize,
 ) -> [Rgb15; TILE_SIDE]
     requires { ⌜ NormalRow (now vram) (now palette) attrs y × (t < attrs .width / 8) ⌝ }
-    ensures { λ r.
-        ⌜ r
-        ≡ tab
-        (λ k.
-        rgb
-        (texel reading mapping (now (vram .entry)) (now (palette .entry)) attrs
-        (flip (attrs .«h_flip») (attrs .width) (8 * t + k)) y))
-        8 ⌝ }
+    ensures { λ r. ⌜ r ≡ tab (λ k. rgb (texel reading mapping (now (vram .entry)) (now (palette .entry)) attrs
+        (flip (attrs .«h_flip») (attrs .width) (8 * t + k)) y)) 8 ⌝ }
 {
     let format = attrs.format;
     let bank = format.palette_bank(attrs.bank);
@@ -101,11 +89,7 @@ pub fn texel_row(
     y: usize,
 ) -> [Rgb15; BOX_COLUMNS]
     requires { ⌜ NormalRow (now vram) (now palette) attrs y ⌝ }
-    ensures { λ r.
-        ⌜ r
-        ≡ tab
-        (λ x. rgb (rowTexel reading mapping (now (vram .entry)) (now (palette .entry)) attrs y x))
-        128 ⌝ }
+    ensures { λ r. ⌜ r ≡ tab (λ x. rgb (rowTexel reading mapping (now (vram .entry)) (now (palette .entry)) attrs y x)) 128 ⌝ }
 {
     let tiles = attrs.width / TILE_SIDE;
     let mut row = [Rgb15::TRANSPARENT; BOX_COLUMNS];

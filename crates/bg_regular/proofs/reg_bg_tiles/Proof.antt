@@ -33,7 +33,7 @@ next-tile c =
     let char = screen .before in
     let t< = x .before .loop-test .taken in (
       omega (arith, t<),
-      tilesSet-more _ _ _ (loop .loop .inv .1) (omega (arith, t<)) (row .entry-row .ensures)
+      tilesSet-more _ _ (row .entry-row .result) (loop .loop .inv .1) (omega (arith, t<)) (row .entry-row .ensures)
           (regularTile-is _ _ _ _ _ _ _
           (char .before .from .ensures)
           (char .char-block .ensures)

@@ -31,7 +31,7 @@ next-tile c =
     let t< = turn .loop-test .taken in
     let width≤ = start loop .pre .decoded .width≤ in (
       omega (arith, t<),
-      tilesSet-more _ _ _ (loop .loop .inv .1) (omega (arith, t<, width≤)) (made .shown-tile .ensures)
+      tilesSet-more _ _ (made .shown-tile .result) (loop .loop .inv .1) (omega (arith, t<, width≤)) (made .shown-tile .ensures)
           (λ k k<.
           ap rgb
           (sym
