@@ -5,6 +5,7 @@ use mathlib.Core.Path.{_≡_}
 use native.Mathlib.Omega.{arith}
 use borrow.Author.Needs.{needs}
 use Rattle.bits.specs.Bits.{bits}
+use Rattle.obj_sprites.specs.Size.{objWidth}
 use Rattle.obj_sprites.specs.Attrs.{objAttrs}
 use Rattle.obj_sprites.proofs.attrs.ObjAttrs.from.Statement.{statement}
 use Rattle.obj_sprites.proofs.attrs.ObjAttrs.from.Tie as tie
@@ -12,7 +13,10 @@ use Rattle.obj_sprites.proofs.attrs.ObjAttrs.from.Tie as tie
 fields : tie.Need-returns
 unfolding objAttrs
 fields c =
-    let at = c .before .before .before .before .args in
+    let size = c .before .before .before in
+    let at = size .before .args in
+    let width-is : size .from .result .0 ≡ objWidth (bits 15 14 (at .attr1)) (bits 15 14 (at .attr0))
+    = size .from .ensures .width-is in
     let y-is : at .attr0 % 0x100 ≡ bits 7 0 (at .attr0) = omega arith in
     let x-is : at .attr1 % 0x200 ≡ bits 8 0 (at .attr1) = omega arith in
     let tile-is : at .attr2 % 0x400 ≡ bits 9 0 (at .attr2) = omega arith in
