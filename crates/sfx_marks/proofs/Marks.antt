@@ -8,6 +8,8 @@ use lib.Bits.{bitAnd, bitOr, and-le-l, or-lt}
 use lib.Count.{ones}
 use lib.ListN.{getD}
 use lib.Pow.{pow-pos, pow-mono}
+use mir.Syntax.{w64}
+use mir.Val.{Fits}
 use Rattle.bits.proofs.Booleans.{leb-same}
 use Rattle.rows.specs.Below.{tally, countBelow, between}
 use Rattle.rows.proofs.Below.{tally-none, tally-add, tally-cong}
@@ -38,14 +40,14 @@ tally-words : (f : ℕ → ℕ)
 tally-words f =
     omega (arith, tally-none f, tally-add f 0 64, tally-add f 64 64, tally-add f 128 64, tally-add f 192 48)
 
-pub countMarks-ones : (ws : List ℕ) → ((i : ℕ) → getD ws i 0 < 2 ^ 64) → Clean ws
+pub countMarks-ones : (ws : List ℕ) → ((i : ℕ) → Fits w64 (getD ws i 0)) → Clean ws
     → ones (getD ws 0 0) + ones (getD ws 1 0) + ones (getD ws 2 0) + ones (getD ws 3 0) ≡ countMarks ws
 countMarks-ones ws few clean =
     omega (
       arith,
-      ones-word ws 0 64 (omega arith) (few 0),
-      ones-word ws 1 64 (omega arith) (few 1),
-      ones-word ws 2 64 (omega arith) (few 2),
+      ones-word ws 0 64 (omega arith) (few 0 .fits),
+      ones-word ws 1 64 (omega arith) (few 1 .fits),
+      ones-word ws 2 64 (omega arith) (few 2 .fits),
       ones-word ws 3 48 (omega arith) clean,
       tally-words (λ k. cond (marked ws k) 1 0),
     )
@@ -130,7 +132,7 @@ module _ (c : Columns) (spanned : Spanned c) where
 
 module _ (ws vs : List ℕ) (clean : Clean ws) where
   -- Those of the one without those of the other.
-  pub marksOf-free : ((i : ℕ) → getD vs i 0 < 2 ^ 64)
+  pub marksOf-free : ((i : ℕ) → Fits w64 (getD vs i 0))
       → MarksOf (λ k. marked ws k && not (marked vs k)) (fourWords (λ i. bitAnd (getD ws i 0) ((2 ^ 64 - 1) - getD vs i 0)))
   marksOf-free few =
       marksOf-words (λ i. bitAnd (getD ws i 0) ((2 ^ 64 - 1) - getD vs i 0)) _
@@ -139,7 +141,7 @@ module _ (ws vs : List ℕ) (clean : Clean ws) where
       isSet-and (getD ws i 0) ((2 ^ 64 - 1) - getD vs i 0) j
       ∙ ap₂ _&&_
       (sym (marked-word ws i j lt))
-      (isSet-not 64 (getD vs i 0) j (few i) lt ∙ ap not (sym (marked-word vs i j lt))))
+      (isSet-not 64 (getD vs i 0) j (few i .fits) lt ∙ ap not (sym (marked-word vs i j lt))))
 
   -- Those of either.
   pub marksOf-either : Clean vs

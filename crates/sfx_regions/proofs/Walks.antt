@@ -58,8 +58,8 @@ module _ (entries : List ℕ) (objWindow : Bool) (win0 win1 : Columns) (words : 
     walked-second full =
         row-second
         ∙ tab-cong _ _ 240 (λ k lt.
-        rw (marked-second k lt)
-        (cond-second (holds win0 k) (holds win1 k) _ _ _ (sym (marked-occupied k lt) ∙ countBelow-full (marked occupied) 240 full k lt)))
+        let held-by-one = sym (marked-occupied k lt) ∙ countBelow-full (marked occupied) 240 full k lt in
+        rw (marked-second k lt) (cond-second (holds win0 k) (holds win1 k) _ _ _ held-by-one))
 
     -- Some columns are left.
     pub walked-all : {line left rest all : List ℕ}

@@ -4,7 +4,8 @@ use Prim.Native.Nat.{_-_, _%_}
 use native.Mathlib.Omega.{arith}
 use mathlib.Core.Path.{_≡_}
 use borrow.Author.Needs.{needs}
-use Rattle.sfx_marks.proofs.Paints.{Painted, length-given, given-none, markedIn-none, painted-none, painted-more, painted-all}
+use Rattle.sfx_marks.proofs.Paints.{length-given, given-none, markedIn-none}
+use Rattle.sfx_marks.proofs.Paints.{Painted, painted-none, painted-more, painted-all}
 use Rattle.sfx_marks.proofs.paint_word.Statement.{statement}
 use Rattle.sfx_marks.proofs.paint_word.Tie as tie
 

@@ -1,4 +1,4 @@
--- sfx_regions::claimed_columns meets its contract: columns between a window's edges are those within them, where its rows hold the line.
+-- sfx_regions::claimed_columns meets its contract: a window's columns lie between its edges, where its rows hold the line.
 -- Assumes nothing.
 use borrow.Author.Needs.{needs}
 use Rattle.sfx_regions.proofs.Spans.{claimed-some, claimed-none}

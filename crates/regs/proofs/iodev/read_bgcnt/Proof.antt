@@ -6,4 +6,10 @@ use Rattle.regs.proofs.iodev.read_bgcnt.Tie as tie
 
 pub read-bgcnt-spec : {M : Type 1} → statement M
 read-bgcnt-spec =
-    tie.close (tie.spec (search needs) (search needs) (search needs) (search needs) (λ c. rw (c .before .read-16 .ensures) at (c .from .ensures)))
+    tie.close
+    (tie.spec
+    (search needs)
+    (search needs)
+    (search needs)
+    (search needs)
+    (λ c. rw (c .before .read-16 .ensures) at (c .from .ensures)))
