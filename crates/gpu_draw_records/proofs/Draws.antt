@@ -2,7 +2,7 @@
 use Prim.Native.Nat.{ℕ}
 use native.Mathlib.Omega.{arith}
 use mathlib.Core.Path.{_≡_, refl, sym, ap, _∙_}
-use mathlib.Core.Bool.{Bool, true, false, not, cond, and-false}
+use mathlib.Core.Bool.{Bool, true, false, cond, and-false}
 use mathlib.Core.List.{List}
 use lib.Dec.{eqb, ltb}
 use lib.ListN.{length}
@@ -10,7 +10,6 @@ use borrow.Author.Tests.{eqb-true, ne-eqb}
 use Rattle.memory.specs.Sizes.{registersSize}
 use Rattle.gpu_judge.specs.Judge.{Call, haveLengths, verdict, numberOf}
 use Rattle.gpu.specs.Draw.{refused, given, draw, Draws}
-use Rattle.gpu_judge.specs.declared.Verdict.{Verdict}
 use Rattle.gpu_judge.specs.declared.Verdict.the-variants.{BadReading, BadLength}
 use Rattle.gpu_judge.proofs.Verdicts.{verdict-cases}
 use Rattle.gpu_records.specs.Entries.{rowBytes, recordsIn}

@@ -2,14 +2,12 @@
 -- Assumes nothing.
 use Prim.Native.Nat.{ℕ}
 use mathlib.Core.Path.{_≡_, sym, ap, _∙_}
-use mir.Syntax.{w32}
-use mir.Val.{toZ, ofZ}
 use Rattle.bg_points.specs.declared.references.References.{References}
-use Rattle.bg_points.proofs.Ranges.{ranges-true}
 use Rattle.gpu_step.specs.declared.Steps.{Steps}
 use Rattle.gpu_step.specs.Step.{stepped, stepNumber, referencesAfter}
 use Rattle.gpu_step.specs.declared.Stepped.{Stepped}
-use Rattle.gpu_step.proofs.Added.{read-range}
+use Rattle.gpu_step.proofs.Machine.{machine}
+use Rattle.gpu_step.proofs.Added.{references-found}
 use Rattle.gpu_step.proofs.Answers.{stepped-ranges}
 use Rattle.gpu_records.specs.Step.{stepsOf, referencesOf, movedTo, stepRecords, StepsRecords}
 use Rattle.gpu_records.specs.declared.affine.BgAffine.{BgAffine}
@@ -25,21 +23,13 @@ module _ (bg2 bg3 : BgAffine) {s : Steps} {r : References} {a : Stepped} (s-is :
   steps-refused found = rw (asked ∙ found)
 
   pub steps-done : {left2 left3 : BgAffine} (to : References) → a ≡ Stepped.To to
-      → left2 ≡ movedTo bg2 (toZ w32 (ofZ w32 (to .x2))) (toZ w32 (ofZ w32 (to .y2)))
-      → left3 ≡ movedTo bg3 (toZ w32 (ofZ w32 (to .x3))) (toZ w32 (ofZ w32 (to .y3)))
+      → left2 ≡ movedTo bg2 (machine to .x2) (machine to .y2) → left3 ≡ movedTo bg3 (machine to .x3) (machine to .y3)
       → StepsRecords bg2 bg3 0 left2 left3
   unfolding stepRecords stepNumber referencesAfter
   steps-done to found left2-is left3-is =
-      let all = ranges-true to (stepped-ranges s r a-is found) in
-      rw (
-        asked ∙ found,
-        left2-is,
-        left3-is,
-        read-range _ (all .x2-in),
-        read-range _ (all .y2-in),
-        read-range _ (all .x3-in),
-        read-range _ (all .y3-in),
-      )
+      rw (asked ∙ found, left2-is, left3-is)
+      (ap (λ q. record { number = 0; bg2 = movedTo bg2 (q .x2) (q .y2); bg3 = movedTo bg3 (q .x3) (q .y3) })
+      (references-found to (stepped-ranges s r a-is found)))
 
 -- A record and a number that satisfy the contract are the only ones.
 pub steps-once : (bg2 bg3 : BgAffine) {m n : ℕ} {a2 a3 b2 b3 : BgAffine}

@@ -6,21 +6,17 @@ use mathlib.Core.Bool.{Bool, true, false, cond, _&&_}
 use mathlib.Core.List.{List}
 use lib.IntN.{ℤ}
 use lib.ListN.{length, getD}
-use mir.Syntax.{w32}
-use mir.Val.{toZ, ofZ}
 use borrow.Author.Tests.{eq-eqb, ne-eqb}
 use Rattle.signed.specs.Signed.{word32}
 use Rattle.rows.specs.Cells.{putCell, mapRow}
 use Rattle.rows.specs.Words.{wordCells}
 use Rattle.rows.proofs.Cells.{putAll-all}
 use Rattle.bg_points.specs.References.{inRanges}
-use Rattle.bg_points.proofs.Ranges.{ranges-true}
 use Rattle.bg_points.specs.declared.references.References.{References}
 use Rattle.gpu_step.specs.declared.Steps.{Steps}
 use Rattle.gpu_step.specs.Step.{referencesSize, referenceAt, referencesIn, wordsOf, bytesOf, sums, stepped, stepNumber, referencesAfter}
 use Rattle.gpu_step.specs.Step.{bytesAfter, step, StepsTo}
 use Rattle.gpu_step.specs.declared.Stepped.{Stepped}
-use Rattle.gpu_step.proofs.Added.{read-range}
 
 -- The four numbers read one by one are those of the bytes.
 pub referencesIn-is : (bytes : List ℕ) {x2 y2 x3 y3 : ℤ} → x2 ≡ referenceAt bytes 0 → y2 ≡ referenceAt bytes 1
@@ -60,24 +56,12 @@ module _ (s : Steps) (bytes : List ℕ) where
     unfolding step bytesAfter stepNumber
     step-done found left-is = rw (eq-eqb (length bytes) referencesSize l, asked ∙ found, left-is)
 
--- Four numbers in range put one after another are the bytes of the four.
-pub bytesOf-puts : (r : References) (l : List ℕ) {l1 l2 l3 l4 : List ℕ} → length l ≡ referencesSize → inRanges r ≡ true
-    → l1 ≡ putCell wordCells l 0 (word32 (toZ w32 (ofZ w32 (r .x2))))
-    → l2 ≡ putCell wordCells l1 1 (word32 (toZ w32 (ofZ w32 (r .y2))))
-    → l3 ≡ putCell wordCells l2 2 (word32 (toZ w32 (ofZ w32 (r .x3))))
-    → l4 ≡ putCell wordCells l3 3 (word32 (toZ w32 (ofZ w32 (r .y3))))
+-- Four numbers put one after another are the bytes of the four.
+pub bytesOf-puts : (r : References) (l : List ℕ) {l1 l2 l3 l4 : List ℕ} → length l ≡ referencesSize
+    → l1 ≡ putCell wordCells l 0 (word32 (r .x2))
+    → l2 ≡ putCell wordCells l1 1 (word32 (r .y2))
+    → l3 ≡ putCell wordCells l2 2 (word32 (r .x3))
+    → l4 ≡ putCell wordCells l3 3 (word32 (r .y3))
     → l4 ≡ bytesOf r
 unfolding bytesOf mapRow
-bytesOf-puts r l l-is h e1 e2 e3 e4 =
-    let all = ranges-true r h in
-    rw (
-      e4,
-      e3,
-      e2,
-      e1,
-      read-range _ (all .x2-in),
-      read-range _ (all .y2-in),
-      read-range _ (all .x3-in),
-      read-range _ (all .y3-in),
-    )
-    (putAll-all wordCells (λ k. getD (wordsOf r) k 0) 4 l l-is)
+bytesOf-puts r l l-is e1 e2 e3 e4 = rw (e4, e3, e2, e1) (putAll-all wordCells (λ k. getD (wordsOf r) k 0) 4 l l-is)

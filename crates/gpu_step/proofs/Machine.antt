@@ -16,15 +16,18 @@ word-read z fits = toZ-ofZ {w = w32} (record { sfits = fits })
 pub half-read : (z : ℤ) → mag z < 2 ^ 15 → toZ w16 (ofZ w16 z) ≡ z
 half-read z fits = toZ-ofZ {w = w16} (record { sfits = fits })
 
--- So are four of them.
-pub references-read : (r : References) → mag (r .x2) < 2 ^ 31 → mag (r .y2) < 2 ^ 31 → mag (r .x3) < 2 ^ 31 → mag (r .y3) < 2 ^ 31
-    → record {
+-- The four numbers as the machine has them.
+abbrev pub machine : References → References
+machine r =
+    record {
       x2 = toZ w32 (ofZ w32 (r .x2));
       y2 = toZ w32 (ofZ w32 (r .y2));
       x3 = toZ w32 (ofZ w32 (r .x3));
       y3 = toZ w32 (ofZ w32 (r .y3));
     }
-    ≡ r
+
+pub references-read : (r : References) → mag (r .x2) < 2 ^ 31 → mag (r .y2) < 2 ^ 31 → mag (r .x3) < 2 ^ 31 → mag (r .y3) < 2 ^ 31
+    → machine r ≡ r
 references-read r x2< y2< x3< y3< =
     rw (word-read (r .x2) x2<, word-read (r .y2) y2<, word-read (r .x3) x3<, word-read (r .y3) y3<)
 

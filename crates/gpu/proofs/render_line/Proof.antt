@@ -5,9 +5,9 @@ use Rattle.gpu.proofs.Lines.{evy-read, line-composed}
 use Rattle.gpu.proofs.render_line.Statement.{statement}
 use Rattle.gpu.proofs.render_line.Tie as tie
 
--- How the function starts, from the place where its switches are known.
-abbrev start : tie.After-on → tie.Start
-start c = c .before .before .before .before .before .before .before .before
+-- How the function starts, from the place where all four lines are drawn.
+abbrev start : tie.After-bg-line4 → tie.Start
+start c = c .before .before .before .before .before .before .before .before .before .before .before .before
 
 returns : tie.Need-returns
 returns c =
@@ -34,7 +34,7 @@ render-line-spec =
     (λ c κs. search needs)
     (search needs)
     (λ c κs. search needs)
-    (λ c κs. start (c .before .before .before .before .before) .pre .reading<)
-    (λ c κs. search (needs, evy-read, start (c .before .before .before .before .before .before) .pre))
+    (λ c κs. start (c .before) .pre .reading<)
+    (λ c κs. search (needs, evy-read, start (c .before .before) .pre))
     (search needs)
     returns)
