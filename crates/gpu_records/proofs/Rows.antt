@@ -27,7 +27,8 @@ unfolding rowBytes
 length-rowBytes records = length-rowOf entryCells (entryAt records) (length records)
 
 -- A row of 240 has the bytes that a loop over 240 puts.
-pub rowBytes-is : (records : List ObjBufferEntry) → length records ≡ 240 → rowOf entryCells (entryAt records) 240 ≡ rowBytes records
+pub rowBytes-is : (records : List ObjBufferEntry) → length records ≡ 240
+    → rowOf entryCells (entryAt records) 240 ≡ rowBytes records
 unfolding rowBytes
 rowBytes-is records size = ap (rowOf entryCells (entryAt records)) (sym size)
 

@@ -3,7 +3,7 @@
 -- Assumes `Given`, as every proof by hand does.
 use mathlib.Core.Path.{_≡_, refl, sym, ap, subst}
 use mathlib.Core.List.{List, [], _∷_, _++_}
-use Prim.Native.Nat.{ℕ, zero, suc, _+_, _-_, _<_}
+use Prim.Native.Nat.{ℕ, zero, suc, _+_, _-_, _*_, _^_, _<_}
 use native.Mathlib.Nat.{not-suc-le-zero, le-of-suc-le-suc}
 use native.Mathlib.Numerals.{add-one}
 use native.Mathlib.Omega.{arith}
@@ -17,7 +17,7 @@ use base.Fml.{fsep, fat}
 use prog.Wp.{Heap, Out, Env, Calls, Loops, Tables, Wp, afterSeq, afterTurn}
 use ghost.Atoms.{Atoms, sem}
 use mathlib.Core.Bool.{Bool, true, false, not}
-use lib.Dec.{T, ltb}
+use lib.Dec.{ltb}
 use lib.WfN.{Nat·lt-wfRel}
 use borrow.Author.Tests.{ltb-true, ltb-false}
 use sound.Loop.{loop-rule}
@@ -69,6 +69,13 @@ module _ {A : Type 0} where
   upto-all (suc n) (z ∷ zs) [] e e′ = absurd (omega (arith, e′))
   upto-all (suc n) (z ∷ zs) (y ∷ ys) e e′ =
       ap (λ (t : List A). z ∷ t) (upto-all n zs ys (omega (arith, e)) (omega (arith, e′)))
+
+-- Where element k lies, and the next count, fit a word.
+pub place-fits : (k : ℕ) → k < 240 → k * 6 < 2 ^ 64
+place-fits k small = omega arith
+
+pub next-fits : (k : ℕ) → k < 240 → k + 1 < 2 ^ 64
+next-fits k small = omega arith
 
 -- ---- a local array
 
@@ -157,10 +164,11 @@ module _ {M : Type 1} (𝓤 : URA M) (H : Heap 𝓤) (A : Atoms 𝓤) (W : Given
 
 -- ---- a branch that returns
 
--- `if c { a }`, before b: a is walked from the same context as b, which runs where the test fails.
+-- `if !t { a }`, before b: a is walked from the same context as b, which runs where t holds.
 module _ {M : Type 1} {𝓤 : URA M} {H : Heap 𝓤} {A : Atoms 𝓤} {K : Type 0} {W : Given 𝓤 H A} {Γ : List (Item 𝓤)}
     {En : Env 𝓤 H} {C : Calls 𝓤 H} {Λ : Loops 𝓤 H} {q : Post 𝓤 H} where
-  pub only-if : K → {c : Operand} {a b : Body} {y : Bool} → Opd K W Γ En c (vbool y)
-      → (T y → Seq K W Γ (runs C Λ En a (anyQ (afterSeq 𝓤 H (Wp 𝓤 H C Λ En b (post 𝓤 H q)) (post 𝓤 H q)))))
-      → (T (not y) → Seq K W Γ (runs C Λ En b q)) → Seq K W Γ (runs C Λ En (seq (cond c a skip) b) q)
-  only-if t o held failed = first t $ branches t o held (λ h. skips t $ record { prf = failed h .prf })
+  pub unless : K → (t : Bool) {c : Operand} {a b : Body} → Opd K W Γ En c (vbool (not t))
+      → (t ≡ false → Seq K W Γ (runs C Λ En a (anyQ (afterSeq 𝓤 H (Wp 𝓤 H C Λ En b (post 𝓤 H q)) (post 𝓤 H q)))))
+      → (t ≡ true → Seq K W Γ (runs C Λ En b q)) → Seq K W Γ (runs C Λ En (seq (cond c a skip) b) q)
+  unless k true o failed held = first k $ branches k o (λ h. absurd h) (λ _. skips k $ record { prf = held refl .prf })
+  unless k false o failed held = first k $ branches k o (λ _. failed refl) (λ h. absurd h)
