@@ -2,7 +2,6 @@
 use Prim.Native.Nat.{ℕ, zero, suc, _≤_, _<_}
 use native.Mathlib.Omega.{arith}
 use mathlib.Core.Path.{_≡_, refl, sym, _∙_}
-use mathlib.Core.Bool.{Bool, true, false, cond}
 use mathlib.Core.List.{List}
 use lib.Dec.{eqb, eqb·suc-zero}
 use mir.Syntax.{w8}
@@ -18,11 +17,6 @@ use Rattle.memory.specs.declared.PixelFormat.the-variants.{BPP4, BPP8}
 -- Every element is a byte, as is known of a lent slice: `c .shared-slice-known .given`.
 abbrev pub Bytes : List ℕ → Type 0
 Bytes bytes = (at : ℕ) → Fits w8 (byte bytes at)
-
--- A choice has what each of its two values has where the test picks it.
-pub split : {A : Type 0} (P : A → Type 0) (t : Bool) {x y : A} → (t ≡ true → P x) → (t ≡ false → P y) → P (cond t x y)
-split P true f g = f refl
-split P false f g = g refl
 
 -- A tile is at most 64 bytes.
 pub tileSize-bound : (format : PixelFormat) → tileSize format ≤ 64

@@ -1,10 +1,10 @@
 -- Loops over the elements of an array, of any type: what each keeps, and what its answers cite. No contract cites this file.
 -- Assumes nothing.
-use mathlib.Core.Path.{_≡_, refl, sym, ap, subst, _∙_}
+use mathlib.Core.Path.{_≡_, refl, sym, ap, _∙_}
 use mathlib.Core.Bool.{Bool, true, false}
 use mathlib.Core.List.{List, [], _∷_, _++_}
-use Prim.Native.Nat.{ℕ, suc, _+_, _*_, _≤_, _<_}
-use native.Mathlib.Nat.{not-suc-le-zero, add-zero}
+use Prim.Native.Nat.{ℕ, suc, _+_, _≤_, _<_}
+use native.Mathlib.Nat.{not-suc-le-zero}
 use native.Mathlib.Numerals.{add-one}
 use native.Mathlib.Omega.{arith}
 use lib.Dec.{ltb}
@@ -16,7 +16,7 @@ use Rattle.rows.specs.Below.{between}
 use Rattle.rows.specs.Cells.{only}
 use Rattle.rows.specs.Tab.{tab, mapTab}
 use Rattle.rows.proofs.Below.{between-inside, between-before, between-past}
-use Rattle.rows.proofs.Tab.{getD-of-tab, tab-ext}
+use Rattle.rows.proofs.Tab.{tab-ext}
 
 module _ {A : Type 0} where
   -- ---- a loop that overwrites an array
@@ -51,85 +51,12 @@ module _ {A : Type 0} where
       let e : k ≡ n = omega (arith, p .bound) in
       sym (take-all k l (omega (arith, p .size))) ∙ p .made ∙ ap (tab f) e
 
-  -- A turn of the element i + j of several.
-  tabbed-next : {f : ℕ → A} {n : ℕ} (i j : ℕ) {l : List A} {a : A} → Tabbed f n (i + j) l → i + j < n → a ≡ f (i + j)
-      → Tabbed f n (i + suc j) (set l (i + j) a)
-  tabbed-next {f} {n} i j {l} {a} p h e =
-      let s : i + j + 1 ≡ i + suc j = omega arith in
-      subst (λ (k : ℕ). Tabbed f n k (set l (i + j) a)) s (tabbed-more p h e)
-
   -- The eight elements from i on set to a, b, .., as eight stores of code do.
   abbrev pub setTile : List A → ℕ → A → A → A → A → A → A → A → A → List A
   setTile l i a b c d e g h j =
       set (set (set (set (set (set (set (set l i a) (i + 1) b) (i + 2) c) (i + 3) d) (i + 4) e) (i + 5) g) (i + 6) h) (i + 7) j
 
-  tabbed-tile : {f : ℕ → A} {n i : ℕ} {l : List A} {a b c d e g h j : A}
-      → Tabbed f n i l → i + 8 ≤ n
-      → a ≡ f i → b ≡ f (i + 1) → c ≡ f (i + 2) → d ≡ f (i + 3)
-      → e ≡ f (i + 4) → g ≡ f (i + 5) → h ≡ f (i + 6) → j ≡ f (i + 7)
-      → Tabbed f n (i + 8) (setTile l i a b c d e g h j)
-  tabbed-tile {f} {n} {i} p u ea eb ec ed ee eg eh ej =
-      tabbed-next i 7
-      (tabbed-next i 6
-      (tabbed-next i 5
-      (tabbed-next i 4
-      (tabbed-next i 3
-      (tabbed-next i 2
-      (tabbed-next i 1 (tabbed-more p (omega arith) ea) (omega arith) eb)
-      (omega arith) ec)
-      (omega arith) ed)
-      (omega arith) ee)
-      (omega arith) eg)
-      (omega arith) eh)
-      (omega arith) ej
-
   -- ---- a loop that overwrites an array eight elements a turn, as a tile has
-
-  -- Of n elements, which are eight for each tile, those of the first t tiles are set, element j to f j.
-  pub record Tiled (f : ℕ → A) (n tiles t : ℕ) (l : List A) : Type 0 where
-    pub fit : n ≡ 8 * tiles
-    pub bound : t ≤ tiles
-    pub tabbed : Tabbed f n (8 * t) l
-
-  pub tiled-none : {f : ℕ → A} {n tiles : ℕ} {l : List A} → n ≡ 8 * tiles → length l ≡ n → Tiled f n tiles 0 l
-  tiled-none e h = record { fit = e; bound = omega arith; tabbed = tabbed-none h }
-
-  -- A turn, which set the eight elements of tile t to a, b, ..
-  pub tiled-more : {f : ℕ → A} {n tiles t : ℕ} {l : List A} {a b c d e g h j : A}
-      → Tiled f n tiles t l → t < tiles
-      → a ≡ f (8 * t) → b ≡ f (8 * t + 1) → c ≡ f (8 * t + 2) → d ≡ f (8 * t + 3)
-      → e ≡ f (8 * t + 4) → g ≡ f (8 * t + 5) → h ≡ f (8 * t + 6) → j ≡ f (8 * t + 7)
-      → Tiled f n tiles (t + 1) (setTile l (8 * t) a b c d e g h j)
-  tiled-more {f} {n} {tiles} {t} p u ea eb ec ed ee eg eh ej =
-      let next : 8 * (t + 1) ≡ 8 * t + 8 = omega arith in
-      record {
-        fit = p .fit;
-        bound = omega arith;
-        tabbed = rw next (tabbed-tile (p .tabbed) (omega (arith, p .fit)) ea eb ec ed ee eg eh ej);
-      }
-
-  -- A turn, which set them to the elements of a tile's row, whose element r is the one that belongs at 8 * t + r.
-  pub tiled-row : {f : ℕ → A} {n tiles t : ℕ} {l : List A} (g : ℕ → A) (d : A) (row : List A)
-      → Tiled f n tiles t l → t < tiles → row ≡ tab g 8 → ((r : ℕ) → r < 8 → g r ≡ f (8 * t + r))
-      → Tiled f n tiles (t + 1)
-      (setTile l (8 * t) (getD row 0 d) (getD row 1 d) (getD row 2 d) (getD row 3 d)
-      (getD row 4 d) (getD row 5 d) (getD row 6 d) (getD row 7 d))
-  tiled-row {f} {n} {tiles} {t} {l} g d row p u e same =
-      tiled-more p u
-      (value 0 (omega arith) ∙ ap f (add-zero (8 * t)))
-      (value 1 (omega arith))
-      (value 2 (omega arith))
-      (value 3 (omega arith))
-      (value 4 (omega arith))
-      (value 5 (omega arith))
-      (value 6 (omega arith))
-      (value 7 (omega arith))
-    where
-      value : (r : ℕ) → r < 8 → getD row r d ≡ f (8 * t + r)
-      value r lt = getD-of-tab g 8 r d e lt ∙ same r lt
-
-  pub tiled-all : {f : ℕ → A} {n tiles t : ℕ} {l : List A} → Tiled f n tiles t l → tiles ≤ t → l ≡ tab f n
-  tiled-all p h = tabbed-all (p .tabbed) (omega (arith, p .fit))
 
   -- ---- a loop that updates an array
 

@@ -3,7 +3,7 @@
 use Prim.Native.Nat.{ℕ, suc, _+_, _*_, _≤_, _<_}
 use native.Mathlib.Nat.{add-zero}
 use native.Mathlib.Omega.{arith}
-use mathlib.Core.Path.{_≡_, sym, ap, subst, _∙_}
+use mathlib.Core.Path.{_≡_, ap, subst, _∙_}
 use mathlib.Core.List.{List}
 use lib.ListN.{length, getD, set}
 use Rattle.rows.specs.Tab.{tab, mapTab}
