@@ -120,7 +120,7 @@ staircase false late r high out ill = refl
 
 module _ (c : Call) (entries output : List ℕ) where
   -- The verdict is that of the first three tests, and then the rest's.
-  pub verdict-rest : verdict c entries output
+  verdict-rest : verdict c entries output
       ≡ cond (ltb 1 (c .reading)) BadReading
       (cond (not (haveLengths (c .memory) entries output)) BadLength
       (cond (leb displayHeight (c .line)) BadLine

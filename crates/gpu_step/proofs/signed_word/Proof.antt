@@ -17,17 +17,21 @@ use Rattle.gpu_step.proofs.signed_word.Tie as tie
 cast : (c : tie.Else1) → toZ w32 (c .before .args .w - 2 ^ 31) ≡ pos (c .before .args .w - 2 ^ 31)
 cast c = toZ-pos w32 (omega arith)
 
-add-result : tie.Need-add-result
-add-result c = rw (cast c) (record { sfits = mag-subℕ (c .before .args .w - 2 ^ 31) (2 ^ 31) (2 ^ 31) (omega arith) (omega arith) })
+fits : tie.Need-add-result
+fits c = rw (cast c) (record { sfits = mag-subℕ (c .before .args .w - 2 ^ 31) (2 ^ 31) (2 ^ 31) (omega arith) (omega arith) })
 
-returns : tie.Need-returns
-returns c = toZ-pos w32 (c .if1 .taken) ∙ sym (signed32-low _ (c .if1 .taken))
-
-returns-2 : tie.Need-returns-2
-returns-2 c =
-    toZ-ofZ (add-result c)
+high : tie.Need-returns-2
+high c =
+    toZ-ofZ (fits c)
     ∙ ap (λ (z : ℤ). z +ℤ negsuc 0x7fffffff) (cast c)
     ∙ signed32-less (c .before .args .w) (c .if1 .left)
 
 pub signed-word-spec : {M : Type 1} → statement M
-signed-word-spec = tie.close (tie.spec (search needs) (search needs) add-result returns returns-2)
+signed-word-spec =
+    tie.close
+    (tie.spec
+    (search needs)
+    (search needs)
+    fits
+    (λ c. toZ-pos w32 (c .if1 .taken) ∙ sym (signed32-low _ (c .if1 .taken)))
+    high)

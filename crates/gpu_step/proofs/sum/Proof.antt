@@ -9,20 +9,17 @@ use Rattle.gpu_step.proofs.Added.{mag-sum}
 use Rattle.gpu_step.proofs.sum.Statement.{statement}
 use Rattle.gpu_step.proofs.sum.Tie as tie
 
-cast-result : tie.Need-cast-result
-cast-result c = rw (toZ-ofZ (c .fits .by)) (sfits-widen tt (c .fits .by))
+widened : tie.Need-cast-result
+widened c = rw (toZ-ofZ (c .fits .by)) (sfits-widen tt (c .fits .by))
 
 -- The sum, as the machine has it.
 added : (c : tie.Start)
     → toZ w32 (ofZ w32 (c .args .reference)) +ℤ toZ w32 (ofZ w32 (toZ w16 (ofZ w16 (c .args .by))))
     ≡ c .args .reference +ℤ c .args .by
-added c = ap₂ _+ℤ_ (toZ-ofZ (c .fits .reference)) (toZ-ofZ (cast-result c) ∙ toZ-ofZ (c .fits .by))
+added c = ap₂ _+ℤ_ (toZ-ofZ (c .fits .reference)) (toZ-ofZ (widened c) ∙ toZ-ofZ (c .fits .by))
 
-add-result : tie.Need-add-result
-add-result c = rw (added c) (record { sfits = mag-sum (c .args .reference) (c .args .by) (c .pre) (c .fits .by .sfits) })
-
-returns : tie.Need-returns
-returns c = toZ-ofZ (add-result c) ∙ added c
+fits : tie.Need-add-result
+fits c = rw (added c) (record { sfits = mag-sum (c .args .reference) (c .args .by) (c .pre) (c .fits .by .sfits) })
 
 pub sum-spec : {M : Type 1} → statement M
-sum-spec = tie.close (tie.spec cast-result add-result returns)
+sum-spec = tie.close (tie.spec widened fits (λ c. toZ-ofZ (fits c) ∙ added c))
