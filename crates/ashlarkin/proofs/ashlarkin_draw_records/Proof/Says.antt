@@ -39,5 +39,6 @@ module _ (asked : Call) (ys : List ObjBufferEntry) (us : List ℕ) where
     says-kept kept = cc (draws-kept asked ys us (cc (not-true (d .writes) kept)))
 
     -- store_row leaves the row that was drawn.
-    pub says-written : (zs : List ObjBufferEntry) → not (d .writes) ≡ false → zs ≡ d .row → DrawsRecords asked ys us (d .number) zs vs
+    pub says-written : (zs : List ObjBufferEntry) → not (d .writes) ≡ false → zs ≡ d .row
+        → DrawsRecords asked ys us (d .number) zs vs
     says-written zs written stored = cc (draws-written asked ys us (cc (not-false (d .writes) written)))
