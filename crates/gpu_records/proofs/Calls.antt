@@ -103,11 +103,11 @@ module _ {M : Type 1} (𝓤 : URA M) (H : Heap 𝓤) (A : Atoms 𝓤) (T : Ended
             → (Is Result r (vals r) → Seq K W (fromCallee ws ++ (alive ++ With H A Γ E i (only (vals r)))) (runs C Λ E rest q))
             → Seq K W (raw held ∷ ‵ (last ws) ∷ Γ) (lands C Λ E (place i []) v rest q)
         landed t i {rest} typed spare r ws v e is k =
-            let is′ = subst (Is Result r) e is in
+            let told = subst (Is Result r) e is in
             subst (λ (u : Val). Seq K W (raw held ∷ ‵ (last ws) ∷ Γ) (lands C Λ E (place i []) u rest q)) (sym (ap only e))
             (land t (from t (stop t)) (into t (suc (suc (slot E i Γ))) (spotOf 𝓤 H E i .0) (spotOf 𝓤 H E i .1) (only (vals r))
-            (value (nth 𝓤 H A (slot E i Γ) Γ)) spare (typed r is′)) $
-            by t (via 𝓤 _ (comes-over W (With H A Γ E i (only (vals r))) ws) (k is′ .prf)))
+            (value (nth 𝓤 H A (slot E i Γ) Γ)) spare (typed r told)) $
+            by t (via 𝓤 _ (comes-over W (With H A Γ E i (only (vals r))) ws) (k told .prf)))
 
         pub asks : K → FmC 𝓤 H (W .laws) C → {f : Name} {xs : List Operand} {i : ℕ} {rest : Body} → Triple 𝓤 (C f) Callee
             → ent 𝓤 (emp 𝓤) Required → Opds K W (raw (Callee .pre y) ∷ Γ) E xs (passed 𝓤 H A (T .signature) (y .0))
@@ -125,4 +125,4 @@ module _ {M : Type 1} (𝓤 : URA M) (H : Heap 𝓤) (A : Atoms 𝓤) (T : Ended
             use1 W (raw (fact 𝓤 (φ r ws))) (says r ws) $ heard t (φ r ws) (λ said.
             move t (1 ∷ []) $ split t $ move t (1 ∷ []) $
             peeks t Result (Is Result) (shows 𝓤 H A Result) r (v ∷ []) (λ is. drop t $
-            landed t i typed spare r ws v (tells r (v ∷ []) is) is (λ is′. k r ws is′ said)))))) .prf))
+            landed t i typed spare r ws v (tells r (v ∷ []) is) is (λ told. k r ws told said)))))) .prf))

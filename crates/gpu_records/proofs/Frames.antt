@@ -132,12 +132,12 @@ module _ {M : Type 1} (𝓤 : URA M) (H : Heap 𝓤) (A : Atoms 𝓤) (W : Given
       via 𝓤 (sep 𝓤 (mean 𝓤 H A i) (⋆ 𝓤 H A Γ)) (pop 𝓤 H A i Γ)
       (via 𝓤 (sep 𝓤 (mean 𝓤 H A j) (⋆ 𝓤 H A Δ)) (mono∗ 𝓤 h k) (push 𝓤 H A j Δ))
 
-  pub ++-mono : (Γ Δ Δ′ Ψ : List (Item 𝓤)) → ent 𝓤 (⋆ 𝓤 H A Δ) (⋆ 𝓤 H A Δ′)
-      → ent 𝓤 (⋆ 𝓤 H A (Γ ++ (Δ ++ Ψ))) (⋆ 𝓤 H A (Γ ++ (Δ′ ++ Ψ)))
-  ++-mono Γ Δ Δ′ Ψ h =
+  pub ++-mono : (Γ Δ Θ Ψ : List (Item 𝓤)) → ent 𝓤 (⋆ 𝓤 H A Δ) (⋆ 𝓤 H A Θ)
+      → ent 𝓤 (⋆ 𝓤 H A (Γ ++ (Δ ++ Ψ))) (⋆ 𝓤 H A (Γ ++ (Θ ++ Ψ)))
+  ++-mono Γ Δ Θ Ψ h =
       via 𝓤 _ (⊢++ 𝓤 H A Γ (Δ ++ Ψ))
-      (via 𝓤 _ (monoR 𝓤 (⋆ 𝓤 H A Γ) (via 𝓤 _ (⊢++ 𝓤 H A Δ Ψ) (via 𝓤 _ (monoL 𝓤 (⋆ 𝓤 H A Ψ) h) (++⊢ 𝓤 H A Δ′ Ψ))))
-      (++⊢ 𝓤 H A Γ (Δ′ ++ Ψ)))
+      (via 𝓤 _ (monoR 𝓤 (⋆ 𝓤 H A Γ) (via 𝓤 _ (⊢++ 𝓤 H A Δ Ψ) (via 𝓤 _ (monoL 𝓤 (⋆ 𝓤 H A Ψ) h) (++⊢ 𝓤 H A Θ Ψ))))
+      (++⊢ 𝓤 H A Γ (Θ ++ Ψ)))
 
   cell-room : (e : Ty × ℕ) (c : Content) → ent 𝓤 (mean 𝓤 H A (cell e c)) (H .room (e .0) (e .1) zero)
   cell-room e empty = id⊢ 𝓤 (H .room (e .0) (e .1) zero)

@@ -16,7 +16,7 @@ use base.Logic.{SProp, ent, ex, guard, via, exI, guardI}
 use base.Fml.{fsep, fat}
 use prog.Wp.{Heap, Out, Env, Calls, Loops, Tables, Wp, afterSeq, afterTurn}
 use ghost.Atoms.{Atoms, sem}
-use mathlib.Core.Bool.{Bool, true, false, not}
+use mathlib.Core.Bool.{Bool, true, false}
 use lib.Dec.{ltb}
 use lib.WfN.{Nat·lt-wfRel}
 use borrow.Author.Tests.{ltb-true, ltb-false}
@@ -164,11 +164,11 @@ module _ {M : Type 1} (𝓤 : URA M) (H : Heap 𝓤) (A : Atoms 𝓤) (W : Given
 
 -- ---- a branch that returns
 
--- `if !t { a }`, before b: a is walked from the same context as b, which runs where t holds.
+-- `if c { a }`, before b: a is walked from the same context as b, which runs where the test fails.
 module _ {M : Type 1} {𝓤 : URA M} {H : Heap 𝓤} {A : Atoms 𝓤} {K : Type 0} {W : Given 𝓤 H A} {Γ : List (Item 𝓤)}
     {En : Env 𝓤 H} {C : Calls 𝓤 H} {Λ : Loops 𝓤 H} {q : Post 𝓤 H} where
-  pub unless : K → (t : Bool) {c : Operand} {a b : Body} → Opd K W Γ En c (vbool (not t))
-      → (t ≡ false → Seq K W Γ (runs C Λ En a (anyQ (afterSeq 𝓤 H (Wp 𝓤 H C Λ En b (post 𝓤 H q)) (post 𝓤 H q)))))
-      → (t ≡ true → Seq K W Γ (runs C Λ En b q)) → Seq K W Γ (runs C Λ En (seq (cond c a skip) b) q)
-  unless k true o failed held = first k $ branches k o (λ h. absurd h) (λ _. skips k $ record { prf = held refl .prf })
-  unless k false o failed held = first k $ branches k o (λ _. failed refl) (λ h. absurd h)
+  pub only-if : K → {c : Operand} {a b : Body} {t : Bool} → Opd K W Γ En c (vbool t)
+      → (t ≡ true → Seq K W Γ (runs C Λ En a (anyQ (afterSeq 𝓤 H (Wp 𝓤 H C Λ En b (post 𝓤 H q)) (post 𝓤 H q)))))
+      → (t ≡ false → Seq K W Γ (runs C Λ En b q)) → Seq K W Γ (runs C Λ En (seq (cond c a skip) b) q)
+  only-if k {t = true} o held failed = first k $ branches k o (λ _. held refl) (λ h. absurd h)
+  only-if k {t = false} o held failed = first k $ branches k o (λ h. absurd h) (λ _. skips k $ record { prf = failed refl .prf })

@@ -101,12 +101,12 @@ module _ {M : Type 1} (𝓤 : URA M) (H : Heap 𝓤) (A : Atoms 𝓤) (W : Given
     -- From the end of the context, the tokens stand at 11 and 10, the parameters at 9 and 8.
     walk : Walk 𝓤 H A W steps κs qs tt a tt 𝓣 code.function bs
     walk =
-        drop ! $ lift ! 11 $ lift ! 9 $ opens-ref ! tt R vals tells bg2 (λ is.
-        lift ! 10 $ lift ! 8 $ opens-ref ! tt R vals tells bg3 (λ is′.
+        drop ! $ lift ! 11 $ lift ! 9 $ opens-ref ! tt R vals tells bg2 (λ was2.
+        lift ! 10 $ lift ! 8 $ opens-ref ! tt R vals tells bg3 (λ was3.
         -- bg3's cell and what closes it are the first four of the context, bg2's the next four.
-        sets ! (of-opd ! (behind ! 4 refl refl)) refl (typed (bg2 .now) is) $
-        sets ! (of-opd ! (behind ! 0 refl refl)) refl (typed (bg3 .now) is′) $
-        owned ! R (Is R) made (bg3 .now) (vals (bg3 .now)) is′ $ owned ! R (Is R) made (bg2 .now) (vals (bg2 .now)) is $
+        sets ! (of-opd ! (behind ! 4 refl refl)) refl (typed (bg2 .now) was2) $
+        sets ! (of-opd ! (behind ! 0 refl refl)) refl (typed (bg3 .now) was3) $
+        owned ! R (Is R) made (bg3 .now) (vals (bg3 .now)) was3 $ owned ! R (Is R) made (bg2 .now) (vals (bg2 .now)) was2 $
         asks 𝓤 H A step.ended (step.clauses 𝓤 H A at-mem run)
         ((tt, tt, tt, (bg2 .now, (bg3 .now, tt)), (vals (bg2 .now), (vals (bg3 .now), tt))), tt)
         (λ s _. s ≡ stepRecords (bg2 .now) (bg3 .now)) step-vals ! (fmOf 𝓤 H (W .laws) 𝓣) known (id⊢ 𝓤 (emp 𝓤))

@@ -114,10 +114,10 @@ module _ {M : Type 1} (𝓤 : URA M) (H : Heap 𝓤) (A : Atoms 𝓤) (W : Given
           sets ! (bin ! (var ! refl) (lit ! tt) (record { fits = six })) refl (tt, record { fits = six }) $
           sets ! (addr ! (from ! (stop !))) refl (tt, tt) $
           sets-as ! (bin ! (var ! refl) (var ! refl) tt) (ap (vptr l₂) (sym (place-is 6 0 k))) refl (tt, tt) $
-          lift ! 11 $ elem-out ! R (Is R) (shows 𝓤 H A R) vals vals-tell fullShare (upto k ys vs) k none l₂ 0 within′ (λ _.
+          lift ! 11 $ elem-out ! R (Is R) (shows 𝓤 H A R) vals vals-tell fullShare (upto k ys vs) k none l₂ 0 inside (λ _.
           puts ! (of-opd ! (var ! refl)) 0 refl refl (typed 𝓤 H A W e is) $
           move ! (1 ∷ []) $ drop ! $ owned ! R (Is R) (made 𝓤 H A W) e (vals e) is $ move ! (1 ∷ 0 ∷ []) $
-          elem-put ! R fullShare (upto k ys vs) k e (vals e) l₂ 0 within′ $
+          elem-put ! R fullShare (upto k ys vs) k e (vals e) l₂ 0 inside $
           rewrite ! 0 (λ (l : List E). ‵ (row R fullShare l l₂ 0)) (upto-more k ys vs none same within) refl $ lower ! 11 $
           sets-last ! (bin ! (var ! refl) (lit ! tt) (record { fits = next })) refl (tt, record { fits = next }) $
           clears (past 5 En) ! refl $ by ! then))
@@ -134,8 +134,8 @@ module _ {M : Type 1} (𝓤 : URA M) (H : Heap 𝓤) (A : Atoms 𝓤) (W : Given
           within : k < length ys
           within = omega arith
 
-          within′ : k < length (upto k ys vs)
-          within′ = omega (arith, upto-length k ys vs same)
+          inside : k < length (upto k ys vs)
+          inside = omega (arith, upto-length k ys vs same)
 
       -- The turn that leaves the loop, and the rest of the body.
       leaves : (X : SProp 𝓤) → ent 𝓤 (⋆ 𝓤 H A (At 240)) (Wp 𝓤 H (𝓣 .C) (𝓣 .Λ) En lines.turn-1 (afterTurn 𝓤 H X Left))

@@ -114,10 +114,10 @@ module _ {M : Type 1} (𝓤 : URA M) (H : Heap 𝓤) (A : Atoms 𝓤) (W : Given
           -- The lent row's element is written.
           sets ! (bin ! (var ! refl) (lit ! tt) (record { fits = six })) refl (tt, record { fits = six }) $
           sets-as ! (bin ! (dot ! refl refl refl) (var ! refl) tt) (ap (vptr b) (sym (place-is 6 o k))) refl (tt, tt) $
-          elem-out ! R (Is R) (shows 𝓤 H A R) vals vals-tell fullShare (upto k zs ys) k none b o within′ (λ _.
+          elem-out ! R (Is R) (shows 𝓤 H A R) vals vals-tell fullShare (upto k zs ys) k none b o inside (λ _.
           puts ! (of-opd ! (var ! refl)) 0 refl refl (typed 𝓤 H A W e is) $
           move ! (1 ∷ []) $ drop ! $ owned ! R (Is R) (made 𝓤 H A W) e (vals e) is $ move ! (1 ∷ 0 ∷ []) $
-          elem-put ! R fullShare (upto k zs ys) k e (vals e) b o within′ $
+          elem-put ! R fullShare (upto k zs ys) k e (vals e) b o inside $
           rewrite ! 0 (λ (l : List E). ‵ (row R fullShare l b o)) (upto-more k zs ys none same within) refl $
           sets-last ! (bin ! (var ! refl) (lit ! tt) (record { fits = next })) refl (tt, record { fits = next }) $
           clears (past 5 En) ! refl $ by ! then))
@@ -134,8 +134,8 @@ module _ {M : Type 1} (𝓤 : URA M) (H : Heap 𝓤) (A : Atoms 𝓤) (W : Given
           within : k < length zs
           within = omega (arith, whole-row)
 
-          within′ : k < length (upto k zs ys)
-          within′ = omega (arith, upto-length k zs ys same)
+          inside : k < length (upto k zs ys)
+          inside = omega (arith, upto-length k zs ys same)
 
       -- The turn that leaves the loop, and the rest of the body.
       leaves : (X : SProp 𝓤) → ent 𝓤 (⋆ 𝓤 H A (At 240)) (Wp 𝓤 H (𝓣 .C) (𝓣 .Λ) En lines.turn-1 (afterTurn 𝓤 H X Left))
