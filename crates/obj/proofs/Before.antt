@@ -8,8 +8,7 @@ use mathlib.Core.List.{List}
 use mathlib.Core.Logic.{_⊎_, inl, inr, ⊎-elim}
 use lib.Dec.{eqb, ltb}
 use borrow.Author.Tests.{ltb-true, lt-ltb, eqb-true, eq-eqb}
-use Rattle.bits.proofs.Booleans.{and-both}
-use Rattle.obj_entries.proofs.Shapes.{or-split}
+use Rattle.bits.proofs.Booleans.{and-both, or-split}
 use Rattle.obj.specs.Order.{Pixel, isBefore, Wins}
 
 -- Pixel p was put earlier than sprite n of draw number i is.

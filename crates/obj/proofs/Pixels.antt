@@ -20,7 +20,7 @@ use Rattle.obj_entries.specs.declared.Entry.{Entry}
 use Rattle.obj_entries.proofs.Entries.{AllBytes, exact-entryCells}
 use Rattle.obj_sprites.specs.declared.attrs.ObjAttrs.{ObjAttrs}
 use Rattle.obj_sprites.specs.declared.attrs.ObjMode.{ObjMode}
-use Rattle.obj_sprites.proofs.Booleans.{cond-both}
+use Rattle.bits.proofs.Booleans.{cond-both}
 use Rattle.obj.specs.Put.{passedOver, shownBy, windowed, written, putPixel}
 use Rattle.obj.specs.Code.{BoxColumns, putColumn, putRow, boxPixel, putBox, Each, Walked, WalkedBack, PassedOver}
 

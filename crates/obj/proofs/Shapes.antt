@@ -14,7 +14,7 @@ use Rattle.obj_entries.proofs.Shapes.{Shape, blank, shown, wellShaped-shape, sh
 use Rattle.obj_sprites.specs.Attrs.{sprite}
 use Rattle.obj_sprites.specs.Sprite.{Source, spriteColor}
 use Rattle.obj_sprites.specs.declared.attrs.ObjMode.{ObjMode}
-use Rattle.obj_sprites.proofs.Booleans.{or-neither}
+use Rattle.bits.proofs.Booleans.{or-neither}
 use Rattle.obj_sprites.proofs.Clean.{Clean, clean-sprite}
 use Rattle.obj_sprites.proofs.Decode.{priority-bound}
 use Rattle.obj.specs.Put.{passedOver, shownBy, windowed, written, putPixel, spriteStep, entryUpTo, putSprites}

@@ -12,7 +12,7 @@ use Rattle.obj.specs.Put.{passedOver, shownBy, windowed, written, putPix
 use Rattle.obj.specs.Order.{Draw, isOpaque, windowUpTo}
 use Rattle.obj_sprites.specs.declared.attrs.ObjMode.{ObjMode}
 use Rattle.obj_entries.specs.declared.Entry.{Entry}
-use Rattle.obj_sprites.proofs.Booleans.{cond-both}
+use Rattle.bits.proofs.Booleans.{cond-both}
 use Rattle.obj.proofs.Marks.{window-put-same, window-put-other}
 
 -- A pixel that is shown leaves the window mark.

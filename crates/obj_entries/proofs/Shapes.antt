@@ -2,23 +2,18 @@
 -- this file. Assumes nothing.
 use Prim.Native.Nat.{ℕ, _-_, _*_, _/_, _%_, _≤_}
 use native.Mathlib.Omega.{arith}
-use mathlib.Core.Path.{_≡_, refl, sym, ap}
+use mathlib.Core.Path.{_≡_, ap}
 use mathlib.Core.Bool.{Bool, true, false, not, _&&_, _||_, or-true}
-use mathlib.Core.Logic.{_⊎_, inl, inr, ⊎-elim}
+use mathlib.Core.Logic.{_⊎_, ⊎-elim}
 use lib.Dec.{eqb, leb}
 use borrow.Author.Tests.{eqb-true, eqb-false, eq-eqb, ne-eqb, leb-true, le-leb, not-true}
 use Rattle.rgb15.specs.Colour.{transparent}
-use Rattle.bits.proofs.Booleans.{and-both}
+use Rattle.bits.proofs.Booleans.{and-both, or-split, both-ways}
 use Rattle.rows.proofs.Below.{allBelow-ext}
 use Rattle.rows.proofs.Cells.{cellAt-rowOf}
 use Rattle.obj_entries.specs.Entry.{entryCells, semiMark, resetRow, wellShaped, shapedRow}
 use Rattle.obj_entries.specs.Code.{entryOfWord}
 use Rattle.obj_entries.specs.declared.Entry.{Entry}
-
--- One of two tests holds where either does.
-pub or-split : (a b : Bool) → (a || b) ≡ true → (a ≡ true) ⊎ (b ≡ true)
-or-split true b e = inl refl
-or-split false b e = inr e
 
 -- A well-shaped entry shows nothing or a pixel.
 pub data Shape (e : Entry) : Type 0 where
@@ -55,12 +50,6 @@ shape-wellShaped e t =
     (or-split _ _ (parts .1))
 
 -- ---- a word's tests
-
--- Two tests agree where each one's truth gives the other's.
-both-ways : (s t : Bool) → (s ≡ true → t ≡ true) → (t ≡ true → s ≡ true) → s ≡ t
-both-ways true t f g = sym (f refl)
-both-ways false true f g = g refl
-both-ways false false f g = refl
 
 module _ (w : ℕ) where
   -- The word without bit 25, which is the window mark, is that of the reset entry.

@@ -17,7 +17,7 @@ use Rattle.obj_sprites.specs.Color.{normalColor, colorAt, affineObjColor
 use Rattle.obj_sprites.specs.Sprite.{Source, typedColor, spriteColor}
 use Rattle.obj_sprites.specs.declared.attrs.ObjAttrs.{ObjAttrs}
 use Rattle.obj_sprites.specs.declared.attrs.ObjType.{ObjType}
-use Rattle.obj_sprites.proofs.Booleans.{cond-both}
+use Rattle.bits.proofs.Booleans.{cond-both}
 
 -- An opaque colour is at most 0x7fff.
 pub record Clean (color : ℕ) : Type 0 where

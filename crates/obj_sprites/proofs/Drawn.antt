@@ -6,14 +6,13 @@ use mathlib.Core.Bool.{Bool, true, false, not, _&&_, _||_, and-false}
 use lib.Dec.{leb, ltb}
 use lib.IntN.{subℕ}
 use borrow.Author.Tests.{not-true, not-false, ltb-false, le-leb, le-ltb, lt-leb}
-use Rattle.bits.proofs.Booleans.{and-both}
+use Rattle.bits.proofs.Booleans.{and-both, or-neither}
 use Rattle.signed.proofs.Remainder.{within-subℕ}
 use Rattle.regs.specs.declared.reading.Reading.{Reading}
 use Rattle.obj_sprites.specs.Place.{boxHeight, top, onLine}
 use Rattle.obj_sprites.specs.Tiles.{tileBase}
 use Rattle.obj_sprites.specs.Sprite.{isShown, isPermitted, drawn}
 use Rattle.obj_sprites.specs.declared.attrs.ObjAttrs.{ObjAttrs}
-use Rattle.obj_sprites.proofs.Booleans.{or-neither}
 use Rattle.obj_sprites.proofs.Places.{boxed-bound, below-is, onLine-bounds}
 
 module _ (reading : Reading) (start : ℕ) (s : ObjAttrs) (line : ℕ) where

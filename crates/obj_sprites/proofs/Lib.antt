@@ -4,7 +4,6 @@
 -- Decode, Places, Points and Drawn answer one sprite's code; Clean is of the colours of all, and Booleans of choices.
 -- A law's name is what is read, what was done, and the case, by the suffixes of `rows`; besides, -is: of what calls found,
 -- -above: from a bias on.
-pub mod Booleans
 pub mod Clean
 pub mod Decode
 pub mod Drawn

@@ -18,7 +18,8 @@ use Rattle.rows.proofs.Cells.{length-rowOf, cellAt-rowOf, exact-rowOf, rowOf-ex
 use Rattle.rows.proofs.Tab.{length-tab, getD-tab, tab-cong}
 use Rattle.obj_entries.specs.Entry.{entryCells, semiMark, resetRow, wellShaped, shapedRow}
 use Rattle.obj_entries.specs.declared.Entry.{Entry}
-use Rattle.obj_entries.proofs.Shapes.{or-split, shapedRow-reset}
+use Rattle.bits.proofs.Booleans.{or-split}
+use Rattle.obj_entries.proofs.Shapes.{shapedRow-reset}
 use Rattle.obj.proofs.Shapes.{shapedRow-after}
 use Rattle.gpu_judge.specs.Judge.{Call, numberOf}
 use Rattle.gpu.specs.Draw.{given, draw}
