@@ -64,7 +64,7 @@ fn record_of(e: Entry) -> ObjBufferEntry
 }
 
 // The bytes of a row.
-pub fn encode_row(records: [ObjBufferEntry; 240]) -> [u8; 960]
+pub fn encode_row(records: [ObjBufferEntry; DISPLAY_WIDTH]) -> [u8; ENTRIES_SIZE]
     ensures { λ r. ⌜ r ≡ rowBytes records ⌝ }
 {
     let mut bytes = [0; ENTRIES_SIZE];
@@ -78,17 +78,17 @@ pub fn encode_row(records: [ObjBufferEntry; 240]) -> [u8; 960]
 }
 
 // A row of one record: what a row is loaded into.
-fn blank_row() -> [ObjBufferEntry; 240] {
+fn blank_row() -> [ObjBufferEntry; DISPLAY_WIDTH] {
     [ObjBufferEntry {
         window: false,
         alpha: false,
         color: Rgb15(0x8000),
         priority: 4,
-    }; 240]
+    }; DISPLAY_WIDTH]
 }
 
 // The records of a row's bytes.
-pub fn decode_row(bytes: &[u8]) -> [ObjBufferEntry; 240]
+pub fn decode_row(bytes: &[u8]) -> [ObjBufferEntry; DISPLAY_WIDTH]
     requires { ⌜ length (now bytes) ≡ entriesSize ⌝ }
     ensures { λ r. ⌜ r ≡ recordsIn (now (bytes .entry)) ⌝ }
 {
@@ -103,7 +103,7 @@ pub fn decode_row(bytes: &[u8]) -> [ObjBufferEntry; 240]
 }
 
 // The records of a lent row.
-pub fn load_row(row: &[ObjBufferEntry]) -> [ObjBufferEntry; 240]
+pub fn load_row(row: &[ObjBufferEntry]) -> [ObjBufferEntry; DISPLAY_WIDTH]
     requires { ⌜ length (now row) ≡ 240 ⌝ }
     ensures { λ r. ⌜ r ≡ now (row .entry) ⌝ }
 {
@@ -117,7 +117,7 @@ pub fn load_row(row: &[ObjBufferEntry]) -> [ObjBufferEntry; 240]
 }
 
 // Records put in a lent row.
-pub fn store_row(row: &mut [ObjBufferEntry], v: [ObjBufferEntry; 240])
+pub fn store_row(row: &mut [ObjBufferEntry], v: [ObjBufferEntry; DISPLAY_WIDTH])
     requires { ⌜ length (now row) ≡ 240 ⌝ }
     ensures { λ _. ⌜ now (row .exit) ≡ v ⌝ }
 {
