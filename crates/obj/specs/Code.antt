@@ -36,7 +36,7 @@ pub record BoxColumns (entries : List ℕ) (left start end : ℕ) : Type 0 where
   pub right≤ : end + 272 ≤ left + 128
 
 -- What a sprite's pixels are read from, and put in, has its length.
-pub record Lengths (entries vram palette : List ℕ) : Type 0 where
+pub record ObjLengths (entries vram palette : List ℕ) : Type 0 where
   pub entries-is : length entries ≡ entriesSize
   pub vram-is : length vram ≡ videoRamSize
   pub palette-is : length palette ≡ paletteRamSize
@@ -48,7 +48,7 @@ pub record OnLine (reading : Reading) (s : ObjAttrs) (line : ℕ) : Type 0 where
 
 -- A normal sprite that has pixels on a line.
 pub record NormalReady (entries vram palette : List ℕ) (reading : Reading) (s : ObjAttrs) (line : ℕ) : Type 0 where
-  pub lengths : Lengths entries vram palette
+  pub lengths : ObjLengths entries vram palette
   pub decoded : Decoded s
   pub whole : s .width % 8 ≡ 0
   pub type-is : s .objtype ≡ ObjType.Normal
@@ -56,14 +56,14 @@ pub record NormalReady (entries vram palette : List ℕ) (reading : Reading) (s 
 
 -- An affine one.
 pub record AffineReady (entries vram palette oam : List ℕ) (reading : Reading) (s : ObjAttrs) (line : ℕ) : Type 0 where
-  pub lengths : Lengths entries vram palette
+  pub lengths : ObjLengths entries vram palette
   pub oam-is : length oam ≡ oamSize
   pub decoded : Decoded s
   pub on-line : OnLine reading s line
 
 -- A sprite of OAM.
 pub record ObjReady (entries vram palette oam : List ℕ) (reading : Reading) (line obj : ℕ) : Type 0 where
-  pub lengths : Lengths entries vram palette
+  pub lengths : ObjLengths entries vram palette
   pub oam-is : length oam ≡ oamSize
   pub obj< : obj < 128
   pub on-line : OnLine reading (sprite oam obj) line

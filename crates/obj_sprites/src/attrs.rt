@@ -14,14 +14,12 @@ ghost use Rattle.obj_sprites.specs.Tiles.{tileBase, tileRow, tileAt};
 ghost use Rattle.obj_sprites.specs.Sprite.{isShown, isPermitted, drawn};
 ghost use Rattle.obj_sprites.specs.Code.{SizeOf};
 use memory::PixelFormat;
+use memory::TILE_SIZE;
 use regs::ObjMapping;
 use regs::Reading;
 
 // Where sprite tiles are counted from.
 pub const OVRAM: usize = 0x1_0000;
-
-// Bytes that a tile number counts.
-const TILE_STEP: usize = 0x20;
 
 // What a box's left edge and its top are larger by in code, so that neither is below 0.
 pub const X_BIAS: usize = 272;
@@ -250,7 +248,7 @@ impl ObjAttrs {
         requires { ⌜ Decoded self ⌝ }
         ensures { λ r. ⌜ (r ≡ tileBase reading self) × (r ≤ 98272) ⌝ }
     {
-        OVRAM + TILE_STEP * self.tile
+        OVRAM + TILE_SIZE * self.tile
     }
 
     // How many tiles further the next row of tiles is.

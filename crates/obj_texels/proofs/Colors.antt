@@ -17,7 +17,7 @@ use Rattle.obj_sprites.specs.Oam.{Matrix}
 use Rattle.obj_sprites.specs.Place.{boxWidth, boxHeight, left, below}
 use Rattle.obj_sprites.specs.Tiles.{texel}
 use Rattle.obj_sprites.specs.Color.{normalColor, colorAt, affineObjColor}
-use Rattle.obj_texels.specs.Code.{pointColor, TurnOf}
+use Rattle.obj_texels.specs.Code.{boxPointColor, TurnOf}
 use Rattle.obj_texels.specs.declared.affine.Turn.{Turn}
 use Rattle.obj_sprites.specs.declared.attrs.ObjAttrs.{ObjAttrs}
 use Rattle.obj_sprites.proofs.Places.{across-above, across-between}
@@ -45,7 +45,7 @@ module _ (reading : Reading) (mapping : ObjMapping) (vram palette : List ℕ) (s
     module _ (m : Matrix) (t : Turn) (turn-is : TurnOf m s (below reading s line -ℤ pos (boxHeight s / 2)) t) where
       -- A column of an affine sprite's box.
       pub affineObjColor-inside : (column : ℕ) → boxWidth s ≤ 128 → l ≤ column + 272 → column + 272 < l + boxWidth s
-          → pointColor reading mapping vram palette s t (column + 272 - l)
+          → boxPointColor reading mapping vram palette s t (column + 272 - l)
           ≡ affineObjColor reading mapping vram palette m s line column
       unfolding affineObjColor within
       affineObjColor-inside column box≤ h u =

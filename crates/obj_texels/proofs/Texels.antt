@@ -27,7 +27,7 @@ use Rattle.obj_sprites.specs.Place.{boxWidth, boxHeight, left, below}
 use Rattle.obj_sprites.specs.Tiles.{tileAt, texel}
 use Rattle.obj_sprites.specs.Color.{normalColor, affineObjColor}
 use Rattle.obj_sprites.specs.declared.attrs.ObjAttrs.{ObjAttrs}
-use Rattle.obj_texels.specs.Code.{rowTexel, pointColor, affineTexel, TurnOf}
+use Rattle.obj_texels.specs.Code.{rowTexel, boxPointColor, affineTexel, TurnOf}
 use Rattle.obj_texels.specs.declared.affine.Turn.{Turn}
 use Rattle.obj_texels.proofs.Colors.{normalColor-inside, affineObjColor-inside}
 
@@ -106,22 +106,22 @@ normalColor-row reading mapping vram palette s line l left-is width≤ row colum
 
 module _ (reading : Reading) (mapping : ObjMapping) (vram palette : List ℕ) (s : ObjAttrs) (t : Turn) where
   pub affineTexel-inside : (from to i : ℕ) → from ≤ i → i < to
-      → affineTexel reading mapping vram palette s t from to i ≡ pointColor reading mapping vram palette s t i
+      → affineTexel reading mapping vram palette s t from to i ≡ boxPointColor reading mapping vram palette s t i
   unfolding affineTexel
   affineTexel-inside from to i i≥ i< = rw (between-inside from to i i≥ i<)
 
   -- The columns that are not set stay transparent.
   pub affineTexel-row : (from to n : ℕ) (d : Rgb15)
-      → mapTab (only (between from to) (λ i _. rgb (pointColor reading mapping vram palette s t i))) n d
+      → mapTab (only (between from to) (λ i _. rgb (boxPointColor reading mapping vram palette s t i))) n d
       (replicate n (rgb transparent))
       ≡ tab (λ i. rgb (affineTexel reading mapping vram palette s t from to i)) n
   unfolding mapTab affineTexel
   affineTexel-row from to n d =
       tab-cong _ _ n
       (λ i i<.
-      ap (cond (between from to i) (rgb (pointColor reading mapping vram palette s t i)))
+      ap (cond (between from to i) (rgb (boxPointColor reading mapping vram palette s t i)))
       (getD-replicate n i (rgb transparent) d i<)
-      ∙ rgb-cond (between from to i) (pointColor reading mapping vram palette s t i))
+      ∙ rgb-cond (between from to i) (boxPointColor reading mapping vram palette s t i))
     where
       rgb-cond : (b : Bool) (a : ℕ) → cond b (rgb a) (rgb transparent) ≡ rgb (cond b a transparent)
       rgb-cond true a = refl

@@ -123,8 +123,8 @@ pub record TurnedRow (vram palette : List ℕ) (s : ObjAttrs) (t : Turn) (from t
   pub to≤ : to ≤ 128
 
 -- The colour of column i of an affine sprite's box, at that column's point.
-abbrev pub pointColor : Reading → ObjMapping → List ℕ → List ℕ → ObjAttrs → Turn → ℕ → ℕ
-pointColor reading mapping vram palette s t i =
+abbrev pub boxPointColor : Reading → ObjMapping → List ℕ → List ℕ → ObjAttrs → Turn → ℕ → ℕ
+boxPointColor reading mapping vram palette s t i =
     colorAt reading mapping vram palette s
     (subℕ (pointAt (t .x) (t .pa) i (s .width)) (2 ^ 16))
     (subℕ (pointAt (t .y) (t .pc) i (s .height)) (2 ^ 16))
@@ -132,4 +132,4 @@ pointColor reading mapping vram palette s t i =
 -- The colour of column i of an affine sprite's box, for the columns from one up to another; in the others there is none.
 unfoldable pub affineTexel : Reading → ObjMapping → List ℕ → List ℕ → ObjAttrs → Turn → ℕ → ℕ → ℕ → ℕ
 affineTexel reading mapping vram palette s t from to i =
-    cond (between from to i) (pointColor reading mapping vram palette s t i) transparent
+    cond (between from to i) (boxPointColor reading mapping vram palette s t i) transparent

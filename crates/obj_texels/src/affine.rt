@@ -9,11 +9,11 @@ ghost use Rattle.memory.specs.Sizes.{oamSize};
 ghost use Rattle.rows.specs.Tab.{tab};
 ghost use Rattle.obj_sprites.specs.Oam.{matrix};
 ghost use Rattle.obj_sprites.specs.Place.{boxHeight, below};
-ghost use Rattle.obj_texels.specs.Code.{MatrixOf, StartOf, TurnOf, pointAt, pointColor, affineTexel};
+ghost use Rattle.obj_texels.specs.Code.{MatrixOf, StartOf, TurnOf, pointAt, boxPointColor, affineTexel};
 ghost use Rattle.obj_texels.specs.Code.{StartRanges, TurnLine, PointRanges, Turned, TurnedRow};
-use crate::BOX_COLUMNS;
 use memory::read_16;
 use obj_sprites::ATTRS_SIZE;
+use obj_sprites::BOX_MAX;
 use obj_sprites::ObjAttrs;
 use obj_sprites::is_inside;
 use obj_sprites::read_texel;
@@ -126,7 +126,7 @@ fn point_color(
     i: usize,
 ) -> Rgb15
     requires { ⌜ Turned (now vram) (now palette) attrs turn × (i ≤ 127) ⌝ }
-    ensures { λ c. ⌜ c .0 ≡ pointColor reading mapping (now (vram .entry)) (now (palette .entry)) attrs turn i ⌝ }
+    ensures { λ c. ⌜ c .0 ≡ boxPointColor reading mapping (now (vram .entry)) (now (palette .entry)) attrs turn i ⌝ }
 {
     let width = attrs.width;
     let height = attrs.height;
@@ -151,12 +151,12 @@ pub fn affine_row(
     turn: Turn,
     from: usize,
     to: usize,
-) -> [Rgb15; BOX_COLUMNS]
+) -> [Rgb15; BOX_MAX]
     requires { ⌜ TurnedRow (now vram) (now palette) attrs turn from to ⌝ }
     ensures { λ r. ⌜ r ≡ tab (λ i. rgb (affineTexel reading mapping (now (vram .entry)) (now (palette .entry)) attrs turn
         from to i)) 128 ⌝ }
 {
-    let mut row = [Rgb15::TRANSPARENT; BOX_COLUMNS];
+    let mut row = [Rgb15::TRANSPARENT; BOX_MAX];
     let mut i = from;
     while i < to {
         row[i] = point_color(vram, palette, attrs, reading, mapping, turn, i);

@@ -7,6 +7,3 @@ pub use affine::Turn;
 pub use affine::affine_row;
 pub use affine::turn_line;
 pub use normal::texel_row;
-
-// Columns of the widest box.
-pub const BOX_COLUMNS: usize = 128;

@@ -9,8 +9,8 @@ ghost use Rattle.tiles.specs.Flip.{flip};
 ghost use Rattle.tiles.specs.Code.{ColorRow};
 ghost use Rattle.obj_sprites.specs.Tiles.{texel};
 ghost use Rattle.obj_texels.specs.Code.{NormalRow, rowTexel};
-use crate::BOX_COLUMNS;
 use memory::PixelFormat;
+use obj_sprites::BOX_MAX;
 use obj_sprites::ObjAttrs;
 use obj_sprites::PALRAM_OFS_FG;
 use regs::ObjMapping;
@@ -87,12 +87,12 @@ pub fn texel_row(
     reading: Reading,
     mapping: ObjMapping,
     y: usize,
-) -> [Rgb15; BOX_COLUMNS]
+) -> [Rgb15; BOX_MAX]
     requires { ⌜ NormalRow (now vram) (now palette) attrs y ⌝ }
     ensures { λ r. ⌜ r ≡ tab (λ x. rgb (rowTexel reading mapping (now (vram .entry)) (now (palette .entry)) attrs y x)) 128 ⌝ }
 {
     let tiles = attrs.width / TILE_SIDE;
-    let mut row = [Rgb15::TRANSPARENT; BOX_COLUMNS];
+    let mut row = [Rgb15::TRANSPARENT; BOX_MAX];
     let mut t: usize = 0;
     while t < tiles {
         let eight = shown_tile(vram, palette, attrs, reading, mapping, y, t);

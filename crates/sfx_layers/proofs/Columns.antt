@@ -28,7 +28,7 @@ use Rattle.sfx_regions.proofs.Regions.{wordIn-each}
 use Rattle.sfx_sorting.specs.Ordered.{keep}
 use Rattle.sfx_layers.specs.Layers.{Layer, Pair, isObject, background, backdropLayer, objectLayer}
 use Rattle.sfx_layers.specs.Layers.{counts, objectCounts, firstTwo, placed, layers}
-use Rattle.sfx_layers.specs.Code.{objectTag, lineTag, linePlaceTag, placeTag, isShown, goesOver}
+use Rattle.sfx_layers.specs.Code.{objectTag, lineTag, linePlaceTag, placeTag, isSeen, goesOver}
 use Rattle.sfx_layers.specs.Code.{permitsPlace, regionWord, columnRegion}
 use Rattle.sfx_layers.specs.Code.{putBackground, backdropPair, backgroundPair, putObject, columnPair, LineLayersOf}
 use Rattle.sfx_layers.specs.declared.layer.LayerPair.{LayerPair}
@@ -58,12 +58,12 @@ module _ (registers : List ℕ) (semi : Bool) where
   -- ---- the backgrounds
 
   module _ (flags : ℕ) (back : Layer) (rest : List Layer) (place color : ℕ) where
-    counts-background : place < 4 → counts flags (background registers place color) ≡ isShown (permits flags place) color
+    counts-background : place < 4 → counts flags (background registers place color) ≡ isSeen (permits flags place) color
     unfolding counts
     counts-background place< = rw (layerBit-background place place<)
 
     -- A background over what is behind it, if it is shown.
-    put-background : (t : Bool) → isShown (permits flags place) color ≡ t → place < 4
+    put-background : (t : Bool) → isSeen (permits flags place) color ≡ t → place < 4
         → putBackground (pairOf (firstTwo flags back rest)) (permits flags place)
         (lineTag registers (backgroundLayer place) (priority (bgcnt registers place))) color
         ≡ pairOf (firstTwo flags back (background registers place color ∷ rest))
@@ -87,15 +87,15 @@ module _ (registers : List ℕ) (semi : Bool) where
     -- The test of code is that of the priorities.
     goesOver-is : (l : Layer)
         → goesOver permitted (tagOf registers semi object) (object .color) (tagOf registers semi l)
-        ≡ isShown permitted (object .color) && leb (object .priority) (l .priority)
+        ≡ isSeen permitted (object .color) && leb (object .priority) (l .priority)
     goesOver-is l = rw (tag-bits registers semi object .priority-is, tag-bits registers semi l .priority-is)
 
     -- An object in its place, if it is shown.
-    place-object : (shown first second : Bool) → isShown permitted (object .color) ≡ shown
+    place-object : (shown first second : Bool) → isSeen permitted (object .color) ≡ shown
         → leb (object .priority) (p .top .priority) ≡ first
         → leb (object .priority) (p .bottom .priority) ≡ second
         → putObject (pairOf p) permitted (tagOf registers semi object) (object .color)
-        ≡ pairOf (cond (isShown permitted (object .color)) (placed object p) p)
+        ≡ pairOf (cond (isSeen permitted (object .color)) (placed object p) p)
     unfolding putObject placed pairOf
     place-object true true second c s t = rw (goesOver-is (p .top), goesOver-is (p .bottom), c, s)
     place-object true false true c s t = rw (goesOver-is (p .top), goesOver-is (p .bottom), c, s, t)

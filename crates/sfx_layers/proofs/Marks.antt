@@ -13,7 +13,7 @@ use Rattle.regs_blend.specs.Layers.{backgroundLayer, targets}
 use Rattle.regs_blend.specs.Blend.{target1, target2}
 use Rattle.regs_blend.specs.declared.layer.RenderLayerKind.{RenderLayerKind}
 use Rattle.regs_blend.specs.declared.layer.RenderLayerKind.the-variants.{Objects}
-use Rattle.sfx_layers.specs.Code.{layerTag, semiBit, placeTag, isShown, goesOver, LineLayersOf, Unmarked}
+use Rattle.sfx_layers.specs.Code.{layerTag, semiBit, placeTag, isSeen, goesOver, LineLayersOf, Unmarked}
 use Rattle.sfx_layers.specs.Code.{putBackground, backgroundPair, putObject, objectsBit, columnPair}
 use Rattle.sfx_layers.specs.declared.layer.LineLayers.{LineLayers}
 use Rattle.sfx_layers.proofs.Tags.{asBit-bound}
@@ -65,10 +65,10 @@ module _ {line : LineLayers} (unmarked-is : Unmarked line) (region a b c d : ℕ
   backgroundPair-plain : bit semiBit (backgroundPair line region a b c d .«top_tag») ≡ false
   unfolding backgroundPair putBackground
   backgroundPair-plain =
-      cond-plain (isShown (bit 0 region) a) _ _ (unmarked-is .place0-plain)
-      (cond-plain (isShown (bit 1 region) b) _ _ (unmarked-is .place1-plain)
-      (cond-plain (isShown (bit 2 region) c) _ _ (unmarked-is .place2-plain)
-      (cond-plain (isShown (bit 3 region) d) _ _ (unmarked-is .place3-plain)
+      cond-plain (isSeen (bit 0 region) a) _ _ (unmarked-is .place0-plain)
+      (cond-plain (isSeen (bit 1 region) b) _ _ (unmarked-is .place1-plain)
+      (cond-plain (isSeen (bit 2 region) c) _ _ (unmarked-is .place2-plain)
+      (cond-plain (isSeen (bit 3 region) d) _ _ (unmarked-is .place3-plain)
       (unmarked-is .backdrop-plain))))
 
   -- With an object whose tag has no mark either, the top of a column has none.

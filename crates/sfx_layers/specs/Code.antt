@@ -76,17 +76,17 @@ abbrev pub tagPriority : ℕ → ℕ
 tagPriority tag = tag / 2 ^ priorityBit
 
 -- Whether a pixel is permitted and opaque.
-abbrev pub isShown : Bool → ℕ → Bool
-isShown permitted color = permitted && not (isTransparent color)
+abbrev pub isSeen : Bool → ℕ → Bool
+isSeen permitted color = permitted && not (isTransparent color)
 
 -- Whether an object's pixel is shown and goes over a layer, by the tags of both.
 abbrev pub goesOver : Bool → ℕ → ℕ → ℕ → Bool
-goesOver permitted tag color behind = isShown permitted color && leb (tagPriority tag) (tagPriority behind)
+goesOver permitted tag color behind = isSeen permitted color && leb (tagPriority tag) (tagPriority behind)
 
 -- A background's pixel over what is behind it, if it is shown: the top that it covers becomes the bottom.
 unfoldable pub putBackground : LayerPair → Bool → ℕ → ℕ → LayerPair
 putBackground behind permitted tag color =
-    let over = isShown permitted color in
+    let over = isSeen permitted color in
     record {
       top = cond over color (behind .top);
       «top_tag» = cond over tag (behind .«top_tag»);

@@ -4,7 +4,7 @@ ghost use Prim.Native.Nat.{_≤_};
 ghost use lib.ListN.{length};
 ghost use Rattle.memory.specs.Sizes.{paletteRamSize, registersSize};
 ghost use Rattle.sfx_layers.specs.Code.{asBit, modeNumber, layerTag, objectTag, placeTag, LineLayersOf};
-ghost use Rattle.sfx_layers.specs.Code.{isShown, putBackground, backgroundPair, putObject, columnPair};
+ghost use Rattle.sfx_layers.specs.Code.{isSeen, putBackground, backgroundPair, putObject, columnPair};
 use crate::region::OBJECTS;
 use crate::region::PLACE0;
 use crate::region::PLACE1;
@@ -131,8 +131,8 @@ pub fn object_tag(tag: u16, e: Entry) -> u16
 }
 
 // Whether a pixel is permitted and opaque.
-fn is_shown(permitted: bool, color: u16) -> bool
-    ensures { λ t. ⌜ t ≡ isShown permitted color ⌝ }
+fn is_seen(permitted: bool, color: u16) -> bool
+    ensures { λ t. ⌜ t ≡ isSeen permitted color ⌝ }
 {
     permitted & !Rgb15(color).is_transparent()
 }
@@ -141,7 +141,7 @@ fn is_shown(permitted: bool, color: u16) -> bool
 fn put_background(behind: LayerPair, permitted: bool, tag: u16, color: u16) -> LayerPair
     ensures { λ r. ⌜ r ≡ putBackground behind permitted tag color ⌝ }
 {
-    let over = is_shown(permitted, color);
+    let over = is_seen(permitted, color);
     LayerPair {
         top: choose(over, color, behind.top),
         top_tag: choose(over, tag, behind.top_tag),
@@ -178,7 +178,7 @@ fn background_pair(
 fn put_object(behind: LayerPair, permitted: bool, tag: u16, color: u16) -> LayerPair
     ensures { λ r. ⌜ r ≡ putObject behind permitted tag color ⌝ }
 {
-    let shown = is_shown(permitted, color);
+    let shown = is_seen(permitted, color);
     let first = shown & (tag / PRIORITY <= behind.top_tag / PRIORITY);
     let second = shown & (tag / PRIORITY <= behind.bottom_tag / PRIORITY);
     LayerPair {

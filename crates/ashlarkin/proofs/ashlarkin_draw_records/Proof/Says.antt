@@ -1,11 +1,11 @@
 -- What the contract of ashlarkin_draw_records says at each of its returns, by what its callees ensure. Assumes nothing.
-use mathlib.Core.Path.{_≡_, refl, sym, _∙_}
-use mathlib.Core.Bool.{Bool, true, false, not}
+use mathlib.Core.Path.{_≡_, sym, _∙_}
+use mathlib.Core.Bool.{true, false, not}
 use mathlib.Core.List.{List}
 use Prim.Native.Nat.{ℕ}
 use lib.Dec.{eqb}
 use lib.ListN.{length}
-use borrow.Author.Tests.{eqb-true, eqb-false}
+use borrow.Author.Tests.{eqb-true, eqb-false, not-true, not-false}
 use Rattle.gpu_judge.specs.Judge.{Call}
 use Rattle.gpu.specs.Draw.{draw}
 use Rattle.gpu_records.specs.Entries.{rowBytes}
@@ -14,14 +14,6 @@ use Rattle.gpu_draw_records.specs.Draw.{DrawsRecords}
 use Rattle.gpu_draw_records.specs.Code.{rowRefusal, drawnRow}
 use Rattle.gpu_draw_records.specs.declared.Drawn.{Drawn}
 use Rattle.gpu_draw_records.proofs.Draws.{row-whole, draws-refused, draws-kept, draws-written}
-
-not-true : (t : Bool) → not t ≡ true → t ≡ false
-not-true true e = sym e
-not-true false e = refl
-
-not-false : (t : Bool) → not t ≡ false → t ≡ true
-not-false true e = refl
-not-false false e = sym e
 
 module _ (asked : Call) (ys : List ObjBufferEntry) (us : List ℕ) where
   -- judge_row judges the row's length.

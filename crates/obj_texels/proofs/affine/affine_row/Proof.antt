@@ -6,14 +6,14 @@ use mathlib.Core.Path.{ap, _∙_}
 use lib.ListN.{length-replicate}
 use Rattle.rgb15.specs.Colour.{rgb, transparent}
 use Rattle.rows.proofs.Tabbed.{MappedPart, mapped-from, mapped-inside, mapped-to}
-use Rattle.obj_texels.specs.Code.{pointColor}
+use Rattle.obj_texels.specs.Code.{boxPointColor}
 use Rattle.obj_texels.proofs.Texels.{affineTexel-row}
 use Rattle.obj_texels.proofs.affine.affine_row.Statement.{statement}
 use Rattle.obj_texels.proofs.affine.affine_row.Tie as tie
 
 abbrev Inv-loop : tie.InvT-loop
 Inv-loop vram palette attrs reading mapping turn from to row₀ i₀ row i =
-    MappedPart (λ i _. rgb (pointColor reading mapping vram palette attrs turn i)) 128 from to (rgb 0) row₀ i row
+    MappedPart (λ i _. rgb (boxPointColor reading mapping vram palette attrs turn i)) 128 from to (rgb 0) row₀ i row
 
 abbrev μ-loop : tie.MeasureT-loop
 μ-loop vram palette attrs reading mapping turn from to row₀ i₀ row i = to - i

@@ -14,7 +14,7 @@ returns c =
       top .choose2 .ensures,
       c .before .choose3 .ensures,
       c .choose4 .ensures,
-      top .before .before .is-shown .ensures,
+      top .before .before .is-seen .ensures,
     )
 
 pub put-background-spec : {M : Type 1} → statement M

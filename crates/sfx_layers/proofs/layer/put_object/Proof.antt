@@ -19,7 +19,7 @@ returns c =
       c .choose6 .ensures,
       c .before .choose5 .ensures,
     )
-    (rw (shown .is-shown .ensures))
+    (rw (shown .is-seen .ensures))
 
 pub put-object-spec : {M : Type 1} → statement M
 put-object-spec =
