@@ -9,7 +9,7 @@ use Rattle.rgb15.specs.Colour.{rgb}
 use Rattle.rgb15.specs.declared.Rgb15.{Rgb15}
 use Rattle.rows.specs.Below.{between}
 use Rattle.rows.specs.Cells.{cellAt, putCell, only, mapRow}
-use Rattle.memory.specs.Sizes.{videoRamSize, paletteRamSize, oamSize}
+use Rattle.memory.specs.Sizes.{videoRamSize, paletteRamSize, oamSize, registersSize}
 use Rattle.regs.specs.declared.reading.Reading.{Reading}
 use Rattle.obj_sprites.specs.Attrs.{sprite, Decoded}
 use Rattle.obj_sprites.specs.Place.{onLine}
@@ -67,6 +67,13 @@ pub record ObjReady (entries vram palette oam : List ℕ) (reading : Reading) (l
   pub oam-is : length oam ≡ oamSize
   pub obj< : obj < 128
   pub on-line : OnLine reading (sprite oam obj) line
+
+-- What the sprites of a line are read from, and put in.
+pub record ObjsReady (entries vram palette oam registers : List ℕ) (line : ℕ) : Type 0 where
+  pub lengths : ObjLengths entries vram palette
+  pub oam-is : length oam ≡ oamSize
+  pub registers-is : length registers ≡ registersSize
+  pub line< : line < 160
 
 -- Where the sprites of a line are looked for.
 pub record NextReady (oam : List ℕ) (line from : ℕ) : Type 0 where

@@ -3,14 +3,13 @@ ghost use mathlib.Core.Path.{_≡_};
 ghost use mathlib.Core.Bool.{cond};
 ghost use Prim.Native.Nat.{_-_, _<_, min};
 ghost use lib.ListN.{length};
-ghost use Rattle.memory.specs.Sizes.{videoRamSize, paletteRamSize, oamSize, registersSize};
 ghost use Rattle.obj_entries.specs.Entry.{entriesSize};
 ghost use Rattle.obj_sprites.specs.Oam.{matrix};
 ghost use Rattle.obj_sprites.specs.Attrs.{sprite};
 ghost use Rattle.obj_sprites.specs.Color.{normalColor, affineObjColor};
 ghost use Rattle.obj_sprites.specs.Sprite.{source, typedColor};
 ghost use Rattle.obj.specs.Put.{shownBy, windowed, putSprites};
-ghost use Rattle.obj.specs.Code.{Columns, BoxColumns, NormalReady, AffineReady, ObjReady, NextReady};
+ghost use Rattle.obj.specs.Code.{Columns, BoxColumns, NormalReady, AffineReady, ObjReady, ObjsReady, NextReady};
 ghost use Rattle.obj.specs.Code.{putColumn, putRow, putBox};
 ghost use Rattle.obj.specs.Code.{Walked, WalkedBack, Closed, PassedOver, NextDrawn};
 use memory::DISPLAY_WIDTH;
@@ -353,12 +352,7 @@ pub fn render_objs(
     reading: Reading,
     line: usize,
 )
-    requires { ⌜ (length (now entries) ≡ entriesSize)
-        × (length (now vram) ≡ videoRamSize)
-        × (length (now palette) ≡ paletteRamSize)
-        × (length (now oam) ≡ oamSize)
-        × (length (now registers) ≡ registersSize)
-        × (line < 160) ⌝ }
+    requires { ⌜ ObjsReady (now entries) (now vram) (now palette) (now oam) (now registers) line ⌝ }
     ensures { λ _.
         ⌜ now (entries .exit)
         ≡ putSprites reading

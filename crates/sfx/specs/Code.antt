@@ -1,15 +1,29 @@
 -- As code has it: a colour line for each background, and the colour of a column's halfwords (01, "What must change shape").
 -- No exported contract reaches this file. Assumes nothing.
-use Prim.Native.Nat.{ℕ}
+use Prim.Native.Nat.{ℕ, _≤_}
+use mathlib.Core.Path.{_≡_}
 use mathlib.Core.List.{List, [], _∷_}
-use lib.ListN.{getD}
+use lib.ListN.{getD, length}
 use Rattle.rgb15.specs.declared.Rgb15.{Rgb15}
 use Rattle.bits.specs.Bits.{bit}
+use Rattle.memory.specs.Sizes.{outputSize, paletteRamSize, registersSize}
+use Rattle.regs.specs.Registers.{bldy}
+use Rattle.regs.specs.Reading.{counted}
+use Rattle.regs.specs.declared.reading.Reading.{Reading}
+use Rattle.obj_entries.specs.Entry.{entriesSize}
 use Rattle.rgb15.specs.Colour.{rgb}
 use Rattle.sfx_layers.specs.Code.{lineColor, effectsBit, columnPair}
 use Rattle.sfx_layers.specs.declared.layer.LineLayers.{LineLayers}
 use Rattle.sfx_effects.specs.Code.{fadedColor, pairColor}
 use Rattle.sfx_effects.specs.declared.Weights.{Weights}
+
+-- What a line is composed from, and written to: its lengths, and a weight of a fade that a blend takes.
+pub record Composable (output entries palette registers : List ℕ) (reading : Reading) : Type 0 where
+  pub output-is : length output ≡ outputSize
+  pub entries-is : length entries ≡ entriesSize
+  pub palette-is : length palette ≡ paletteRamSize
+  pub registers-is : length registers ≡ registersSize
+  pub evy≤ : counted reading (bldy registers) ≤ 16
 
 -- The line of a background, of those of backgrounds 0 to 3; the last stands for any other number.
 unfoldable pub bgLine : List Rgb15 → List Rgb15 → List Rgb15 → List Rgb15 → ℕ → List Rgb15

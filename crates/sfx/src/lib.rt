@@ -9,14 +9,11 @@ ghost use Rattle.rows.specs.Cells.{cellAt, rowOf};
 ghost use Rattle.rows.specs.Tab.{tab};
 ghost use Rattle.rows.specs.Words.{wordCells};
 ghost use Rattle.memory.specs.Palette.{backdrop};
-ghost use Rattle.memory.specs.Sizes.{paletteRamSize, registersSize};
-ghost use Rattle.regs.specs.Registers.{bldy};
-ghost use Rattle.regs.specs.Reading.{counted};
 ghost use Rattle.obj_entries.specs.Entry.{entriesSize, entryCells};
 ghost use Rattle.sfx_layers.specs.Layers.{backgrounds};
 ghost use Rattle.sfx_layers.specs.Code.{lineColor, semiBit, Unmarked, objectTag};
 ghost use Rattle.sfx_effects.specs.Code.{Weighed};
-ghost use Rattle.sfx.specs.Code.{bgLine, columnColor, topColor, atColumn};
+ghost use Rattle.sfx.specs.Code.{Composable, bgLine, columnColor, topColor, atColumn};
 ghost use Rattle.sfx.specs.Pixel.{pixel};
 use memory::DISPLAY_WIDTH;
 use obj_entries::entry_at;
@@ -290,11 +287,7 @@ pub fn finalize_scanline(
     line2: [Rgb15; DISPLAY_WIDTH],
     line3: [Rgb15; DISPLAY_WIDTH],
 )
-    requires { ⌜ (length (now output) ≡ 960)
-        × (length (now entries) ≡ entriesSize)
-        × (length (now palette) ≡ paletteRamSize)
-        × (length (now registers) ≡ registersSize)
-        × (counted reading (bldy (now registers)) ≤ 16) ⌝ }
+    requires { ⌜ Composable (now output) (now entries) (now palette) (now registers) reading ⌝ }
     ensures { λ _.
         ⌜ now (output .exit)
         ≡ rowOf wordCells

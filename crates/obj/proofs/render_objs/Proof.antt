@@ -16,12 +16,15 @@ Inv-loop entries₀ vram palette oam registers reading line mapping tiles-start 
 abbrev μ-loop : tie.MeasureT-loop
 μ-loop entries₀ vram palette oam registers reading line mapping tiles-start obj₀ entries obj = 128 - obj
 
+abbrev start : tie.After-read-dispcnt Inv-loop μ-loop → tie.Start Inv-loop μ-loop
+start c = c .before .before .before .before .before .before
+
 all-put : tie.Need-returns Inv-loop μ-loop
 all-put c =
     let found = c .before .before .before in
-    let read = found .before .before .read-dispcnt in
-    sprites-all _ _ (c .before .loop .inv) (search needs) (search needs)
-    (source-is _ (read .ensures) (found .before .obj-mapping .ensures) (found .obj-tiles-start .ensures))
+    let read = found .before .before in
+    sprites-all _ _ (c .before .loop .inv) (c .loop-test .left) (start read .pre .lengths .entries-is)
+    (source-is _ (read .read-dispcnt .ensures) (found .before .obj-mapping .ensures) (found .obj-tiles-start .ensures))
 
 pub render-objs-spec : {M : Type 1} → statement M
 render-objs-spec =

@@ -16,7 +16,7 @@ output-size c κs =
     let lines = c .before .before .before in
     let objects = lines .before .before .before .before in
     let regions = objects .before .before .before .before in
-    start regions .pre .0
+    start regions .pre .output-is
 
 returns : tie.Need-returns
 returns c =
