@@ -3,7 +3,7 @@
 --
 -- Texels: the row of a normal sprite, tile by tile, and of an affine one's box, point by point. Turns: those points. Colors:
 -- what pixels and points are at a column of the screen.
--- A law's name is as in `sprites`.
+-- A law's name is as in `obj_sprites`.
 pub mod Colors
 pub mod Texels
 pub mod Turns
