@@ -1,4 +1,5 @@
--- The examples that document 01 marks P, as one table under a single statement (01, "Checked examples"). Assumes nothing.
+-- The examples that document 01 marks P (01, "Checked examples"), and effects whose order matters though it may not look so
+-- (02, W-201), as one table under a single statement. Assumes nothing.
 use Prim.Native.Nat.{ℕ}
 use mathlib.Core.Path.{_≡_, refl}
 use mathlib.Core.Bool.{true, false, cond}
@@ -22,7 +23,7 @@ use Rattle.sfx_effects.specs.Effects.{alpha, fade}
 abbrev eva31 : List ℕ
 eva31 = tab (λ at. cond (eqb at BLDALPHA) 31 0) registersSize
 
--- Every example, in the document's order.
+-- Every example, in the documents' order.
 pub record Table : Type 0 where
   -- Y 159, 160, 255 give 159, -96, -1. X 239, 240, 511 give 239, -272, -1.
   pub y-last : yOf 159 ≡ pos 159
@@ -52,6 +53,20 @@ pub record Table : Type 0 where
   pub crossed : tab (inColumns 10 5) 240 ≡ tab (leb 10) 240
   pub equal : tab (inColumns 10 10) 240 ≡ tab (λ _. false) 240
   pub beyond : tab (inColumns 250 5) 240 ≡ tab (λ _. false) 240
+  -- Channels 0 and 1, weights 0 and 16: 1; the channels exchanged and the weights not: 0.
+  pub layers-exchanged : (blendChannel 0 1 0 16 ≡ 1) × (blendChannel 1 0 0 16 ≡ 0)
+  -- Channel 2, white with evy 2, then 3: 9; with 3, then 2: 10.
+  pub whites-reordered : (red (fade 3 (fade 2 2 white) white) ≡ 9) × (red (fade 2 (fade 3 2 white) white) ≡ 10)
+  -- Channel 3, black with evy 1, then 6: 1; with 6, then 1: 0.
+  pub blacks-reordered : (red (fade 6 (fade 1 3 black) black) ≡ 1) × (red (fade 1 (fade 6 3 black) black) ≡ 0)
+  -- Channel 0, evy 1, white, then black: 0; black, then white: 1.
+  pub white-and-black : (red (fade 1 (fade 1 0 white) black) ≡ 0) × (red (fade 1 (fade 1 0 black) white) ≡ 1)
+  -- Channels 0 and 2, each under white with evy 6, then blended by 1 and 15: 11; blended, then white: 12.
+  pub white-then-blend : (red (blendWith (fade 6 0 white) (fade 6 2 white) 1 15) ≡ 11)
+      × (red (fade 6 (blendWith 0 2 1 15) white) ≡ 12)
+  -- Channels 2 and 3 under white, evy 5: 11 and 11; evy 6: 12 and 13.
+  pub difference-before : (red (fade 5 2 white) ≡ 11) × (red (fade 5 3 white) ≡ 11)
+  pub difference-after : (red (fade 6 2 white) ≡ 12) × (red (fade 6 3 white) ≡ 13)
 
 pub table : Table
 unfolding yOf xOf blendChannel blendWith alpha fade counted farEdge tab half bitmapPixel
@@ -77,4 +92,11 @@ table = record {
   crossed = refl;
   equal = refl;
   beyond = refl;
+  layers-exchanged = (refl, refl);
+  whites-reordered = (refl, refl);
+  blacks-reordered = (refl, refl);
+  white-and-black = (refl, refl);
+  white-then-blend = (refl, refl);
+  difference-before = (refl, refl);
+  difference-after = (refl, refl);
 }

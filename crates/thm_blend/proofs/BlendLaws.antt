@@ -1,0 +1,44 @@
+-- The laws for the blend hold. No contract cites this file. Assumes nothing.
+use native.Mathlib.Omega.{arith}
+use mathlib.Core.Path.{_∙_, refl}
+use Rattle.rgb15.specs.Colour.{black, white}
+use Rattle.rgb15.proofs.Laws.{
+  Channels,
+  blendChannel-exchange,
+  blendChannel-first,
+  blendChannel-white,
+  blendChannel-black,
+  blendWith-exchange,
+  blendWith-first,
+  blendWith-bound,
+}
+use Rattle.sfx_effects.specs.Effects.{fade}
+use Rattle.thm_blend.specs.BlendLaws.{BlendLaws}
+
+-- White and black have equal channels.
+whites : Channels white 31 31 31
+whites = record { red-is = refl; green-is = refl; blue-is = refl }
+
+blacks : Channels black 0 0 0
+blacks = record { red-is = refl; green-is = refl; blue-is = refl }
+
+-- The laws for the blend.
+pub blend-laws : BlendLaws
+unfolding fade
+blend-laws =
+    record {
+      exchange-channels = blendChannel-exchange;
+      exchange-colours = blendWith-exchange;
+      first-channel = blendChannel-first;
+      first-colour = blendWith-first;
+      white-channel = λ a. blendChannel-exchange 31 a 16 0 ∙ blendChannel-first 31 a (omega arith);
+      white-colour = λ x. blendWith-exchange white x 16 0 ∙ blendWith-first white x;
+      black-channel = λ a. blendChannel-exchange 0 a 16 0 ∙ blendChannel-first 0 a (omega arith);
+      black-colour = λ x. blendWith-exchange black x 16 0 ∙ blendWith-first black x;
+      never-darkens-channel = blendChannel-white;
+      never-darkens-colour = λ x {evy} {larger} evy≤.
+          blendWith-bound whites evy larger (λ a a≤. blendChannel-white a a≤ evy≤) x;
+      never-brightens-channel = blendChannel-black;
+      never-brightens-colour = λ x {evy} {larger} evy≤.
+          blendWith-bound blacks larger evy (λ a _. blendChannel-black a evy≤) x;
+    }

@@ -1,0 +1,2 @@
+-- The laws for the blend, proved. Assumes nothing.
+pub mod BlendLaws

@@ -1,0 +1,2 @@
+-- What the laws for the blend say. Assumes nothing.
+pub mod BlendLaws
