@@ -33,6 +33,11 @@ pub blendChannel-first : (a b : ℕ) → a ≤ 31 → blendChannel a b 16 0 ≡ 
 unfolding blendChannel
 blendChannel-first a b a≤ = omega arith
 
+-- With weights 0 and 16 the second channel stays.
+pub blendChannel-second : (a b : ℕ) → b ≤ 31 → blendChannel a b 0 16 ≡ b
+unfolding blendChannel
+blendChannel-second a b b≤ = omega arith
+
 -- Under white the weighted sum of a channel rises with evy: of each sixteenth it loses at most 31, and gains 31.
 white-sum : (a : ℕ) {evy larger : ℕ} → a ≤ 31 → evy ≤ larger → a * (16 - evy) + 31 * evy ≤ a * (16 - larger) + 31 * larger
 white-sum a {evy} {larger} a≤ evy≤ =
@@ -94,6 +99,10 @@ blendWith-kept = byChannel-cong {g = λ a _. a} blendChannel-first
 -- With weights 16 and 0 the first colour stays, bit 15 cleared.
 pub blendWith-first : (x y : ℕ) → blendWith x y 16 0 ≡ bits 14 0 x
 blendWith-first x y = blendWith-kept x y ∙ fromRgb-channels x
+
+-- With weights 0 and 16 the second colour stays, bit 15 cleared: it is the first with both exchanged.
+pub blendWith-second : (x y : ℕ) → blendWith x y 0 16 ≡ bits 14 0 y
+blendWith-second x y = blendWith-exchange y x 16 0 ∙ blendWith-first y x
 
 -- With weights 16 and 0 the first colour shows.
 pub toRgb24-blendWith-first : (x y : ℕ) → toRgb24 (blendWith x y 16 0) ≡ toRgb24 x

@@ -1,15 +1,17 @@
 -- The laws for the blend hold. No contract cites this file. Assumes nothing.
 use native.Mathlib.Omega.{arith}
-use mathlib.Core.Path.{_∙_, refl}
+use mathlib.Core.Path.{refl}
 use Rattle.rgb15.specs.Colour.{black, white}
 use Rattle.rgb15.proofs.Laws.{
   Channels,
   blendChannel-exchange,
   blendChannel-first,
+  blendChannel-second,
   blendChannel-white,
   blendChannel-black,
   blendWith-exchange,
   blendWith-first,
+  blendWith-second,
   blendWith-bound,
 }
 use Rattle.sfx_effects.specs.Effects.{fade}
@@ -31,10 +33,10 @@ blend-laws =
       exchange-colours = blendWith-exchange;
       first-channel = blendChannel-first;
       first-colour = blendWith-first;
-      white-channel = λ a. blendChannel-exchange 31 a 16 0 ∙ blendChannel-first 31 a (omega arith);
-      white-colour = λ x. blendWith-exchange white x 16 0 ∙ blendWith-first white x;
-      black-channel = λ a. blendChannel-exchange 0 a 16 0 ∙ blendChannel-first 0 a (omega arith);
-      black-colour = λ x. blendWith-exchange black x 16 0 ∙ blendWith-first black x;
+      white-channel = λ a. blendChannel-second a 31 (omega arith);
+      white-colour = λ x. blendWith-second x white;
+      black-channel = λ a. blendChannel-second a 0 (omega arith);
+      black-colour = λ x. blendWith-second x black;
       never-darkens-channel = blendChannel-white;
       never-darkens-colour = λ x {evy} {larger} evy≤.
           blendWith-bound whites evy larger (λ a a≤. blendChannel-white a a≤ evy≤) x;
