@@ -5,7 +5,9 @@ ghost use Rattle.obj_entries.specs.Reset.{Resets};
 ghost use Rattle.gpu_step.specs.Step.{StepsTo};
 ghost use Rattle.gpu_draw_records.specs.Draw.{DrawsRecords};
 ghost use Rattle.gpu_records.specs.Step.{StepsRecords};
+ghost use Rattle.explain.specs.Explain.{Explains};
 use bg_points::References;
+use explain::Reason;
 use gpu_records::BgAffine;
 use gpu_records::ObjBufferEntry;
 use gpu_step::Steps;
@@ -125,4 +127,39 @@ pub extern "C" fn ashlarkin_draw_records(
     }
     gpu_records::store_row(entries, drawn.row);
     drawn.number
+}
+
+// Why a column of a line has its colour, by the entries as they stand after the draw; its number is 0 or the refusal's.
+#[no_mangle]
+pub extern "C" fn ashlarkin_explain(
+    reading: u32,
+    line: u32,
+    x2: i32,
+    y2: i32,
+    x3: i32,
+    y3: i32,
+    vram: &[u8],
+    palette: &[u8],
+    oam: &[u8],
+    registers: &[u8],
+    entries: &[u8],
+    column: u32,
+) -> Reason
+    ensures { λ r.
+        ⌜ Explains
+        (callOf reading line (record { x2 = x2; y2 = y2; x3 = x3; y3 = y3 })
+        (now (vram .entry)) (now (palette .entry)) (now (oam .entry)) (now (registers .entry)))
+        (now (entries .entry)) column r ⌝ }
+{
+    explain::explain(
+        reading,
+        line,
+        References { x2, y2, x3, y3 },
+        vram,
+        palette,
+        oam,
+        registers,
+        entries,
+        column,
+    )
 }

@@ -103,7 +103,7 @@ module _ (registers : List ℕ) (f g : ℕ → ℕ) (same : (bg : ℕ) → isOn 
       ∙ sym (map-append (layerBy g) l (standing registers p))
 
   -- Only backgrounds that are on stand in the order, so the colours of the others don't matter.
-  backgrounds-on : backgrounds registers f ≡ backgrounds registers g
+  pub backgrounds-on : backgrounds registers f ≡ backgrounds registers g
   unfolding ordered layerBy
   backgrounds-on =
       let at = standing registers in

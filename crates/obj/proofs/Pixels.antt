@@ -43,14 +43,14 @@ unfolding putPixel passedOver written
 putPixel-forbidden priority color e = cond-both (λ f. f ≡ e) (leb (e .priority) priority || isTransparent color) refl refl
 
 -- An ordinary or a semi-transparent sprite's pixel is shown, and a window sprite's is marked.
-putPixel-shown : (alpha : Bool) (priority color : ℕ) (e : Entry)
+pub putPixel-shown : (alpha : Bool) (priority color : ℕ) (e : Entry)
     → cond (leb (e .priority) priority || isTransparent color) e (shownBy alpha priority color e)
     ≡ putPixel (cond alpha ObjMode.Sfx ObjMode.Normal) priority color e
 unfolding putPixel passedOver written
 putPixel-shown true priority color e = refl
 putPixel-shown false priority color e = refl
 
-putPixel-marked : (priority color : ℕ) (e : Entry)
+pub putPixel-marked : (priority color : ℕ) (e : Entry)
     → cond (isTransparent color) e (windowed e) ≡ putPixel ObjMode.Window priority color e
 unfolding putPixel passedOver written
 putPixel-marked priority color e = refl

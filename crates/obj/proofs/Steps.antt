@@ -69,7 +69,7 @@ module _ (reading : Reading) (o : Source) (line n : ℕ) where
       let s = sprite (o .oam) n in typedColor (s .objtype) reading (o .mapping) (o .vram) (o .palette) (o .oam) s line
 
   -- A sprite that is not drawn changes nothing.
-  spriteStep-none : drawn reading (o .start) (sprite (o .oam) n) line ≡ false
+  pub spriteStep-none : drawn reading (o .start) (sprite (o .oam) n) line ≡ false
       → (column : ℕ) (e : Entry) → spriteStep reading o line n column e ≡ e
   unfolding spriteStep spriteColor
   spriteStep-none out column e = rw out (putPixel-transparent _ _ e)
@@ -82,11 +82,11 @@ module _ (reading : Reading) (o : Source) (line n : ℕ) where
   mapRow-drawn l d put-is = put-is ∙ mapRow-cong entryCells _ _ 240 l (λ k k< e. rw d)
 
 module _ (reading : Reading) (o : Source) (line : ℕ) where
-  entryUpTo-none : (column : ℕ) (e : Entry) → entryUpTo reading o line 0 column e ≡ e
+  pub entryUpTo-none : (column : ℕ) (e : Entry) → entryUpTo reading o line 0 column e ≡ e
   unfolding entryUpTo
   entryUpTo-none column e = refl
 
-  entryUpTo-more : (n column : ℕ) (e : Entry)
+  pub entryUpTo-more : (n column : ℕ) (e : Entry)
       → spriteStep reading o line n column (entryUpTo reading o line n column e) ≡ entryUpTo reading o line (n + 1) column e
   unfolding entryUpTo
   entryUpTo-more n column e = ap (λ k. entryUpTo reading o line k column e) (sym (add-one n))

@@ -172,7 +172,7 @@ fn render_normal_obj(
 }
 
 // The entry that shows a sprite's pixel; alpha is the semi-transparent mark.
-fn shown_by(e: Entry, alpha: bool, priority: u8, pixel_color: Rgb15) -> Entry
+pub fn shown_by(e: Entry, alpha: bool, priority: u8, pixel_color: Rgb15) -> Entry
     ensures { λ r. ⌜ r ≡ shownBy alpha priority («pixel_color» .0) e ⌝ }
 {
     Entry {
@@ -231,7 +231,7 @@ fn show_pixels(
 }
 
 // The entry with the window mark set and all else as it was.
-fn windowed(e: Entry) -> Entry
+pub fn windowed(e: Entry) -> Entry
     ensures { λ r. ⌜ r ≡ windowed e ⌝ }
 {
     let color = e.color;

@@ -116,7 +116,7 @@ fn point_at(start: usize, p: usize, i: usize, side: usize) -> usize
 }
 
 // The colour of column i of an affine sprite's box: nothing is read where its point is outside.
-fn point_color(
+pub fn point_color(
     vram: &[u8],
     palette: &[u8],
     attrs: ObjAttrs,

@@ -10,11 +10,13 @@ use Rattle.rows.specs.Answer.{Answer}
 use Rattle.gpu.specs.Draw.{Drawing}
 use Rattle.gpu_records.specs.declared.affine.PairStep.{PairStep}
 use Rattle.gpu_draw_records.specs.Draw.{RecordDrawing}
+use Rattle.explain.proofs.Numbers.{reason-refused}
 use Rattle.thm_refusals.specs.Table.{Row}
-use Rattle.thm_refusals.specs.Demand1.{Judges, Blanks, Demand1, bytesTable, recordsTable, resetTable, stepTable, pairTable}
+use Rattle.thm_refusals.specs.Demand1.{Judges, Blanks, Demand1, bytesTable, recordsTable, resetTable, stepTable, pairTable, explainTable}
 use Rattle.thm_refusals.proofs.Tables.{firstOf, rises, judged-first}
 use Rattle.thm_refusals.proofs.Draws.{number-draw, draw-refused, draw-keeps, draw-blank}
 use Rattle.thm_refusals.proofs.Records.{number-records, records-refused, records-keeps, records-blank}
+use Rattle.thm_refusals.proofs.Explains.{number-explain, explain-blank}
 use Rattle.thm_refusals.proofs.Steps.{reset-fits, step-fits, pair-fits}
 
 -- A routine whose number is the first of its table, and which leaves what was lent where that isn't 0.
@@ -56,4 +58,9 @@ demand-1 =
       step-records = λ bg2 bg3 d.
           subst (λ (a : PairStep). Judges (pairTable bg2 bg3) (a .number) ((a .bg2 ≡ bg2) × (a .bg3 ≡ bg3))) (sym d)
           (judges (pairTable bg2 bg3) refl (pair-fits bg2 bg3 .0) (pair-fits bg2 bg3 .1));
+      explain = λ c entries column r-is. (
+        judges (explainTable c entries column) refl (number-explain c entries column r-is)
+            (reason-refused c entries column r-is),
+        explain-blank c entries column r-is,
+      );
     }

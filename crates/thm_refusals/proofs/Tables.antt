@@ -1,14 +1,14 @@
--- The law of tables whose numbers rise. No contract cites this file. Assumes nothing.
+-- The laws of tables whose numbers rise. No contract cites this file. Assumes nothing.
 use Prim.Native.Nat.{ℕ, zero, suc, _<_}
 use native.Mathlib.Nat.{not-suc-le-zero, le-of-suc-le-suc}
 use native.Mathlib.Omega.{arith}
 use mathlib.Core.Path.{_≡_, refl, sym, _∙_}
 use mathlib.Core.Bool.{Bool, true, false, cond, _&&_, true≢false}
-use mathlib.Core.List.{List, [], _∷_}
+use mathlib.Core.List.{List, [], _∷_, _++_}
 use mathlib.Core.Logic.{_≢_, _↔_, inl, inr, ⊎-elim}
-use lib.Dec.{ltb}
+use lib.Dec.{eqb, ltb}
 use lib.ListN.{length}
-use borrow.Author.Tests.{ltb-true}
+use borrow.Author.Tests.{ltb-true, ne-eqb}
 use Rattle.bits.proofs.Booleans.{and-both}
 use Rattle.thm_refusals.specs.Table.{Row, rowAt, NoneOf, Judged}
 
@@ -97,3 +97,18 @@ judged-first n (r ∷ rest) up =
         → (t : Bool) → r .applies ≡ t → Judged (r ∷ rest) (cond t (r .number) (firstOf rest))
     go low above later true e = judged-applies r rest low above e
     go low above later false e = judged-not r rest low above e later
+
+-- Rows after such a table count where none of it applies.
+pub first-after : (n : ℕ) (table later : List Row) → rises n table ≡ true
+    → firstOf (table ++ later) ≡ cond (eqb (firstOf table) 0) (firstOf later) (firstOf table)
+first-after n [] later up = refl
+first-after n (r ∷ rest) later up =
+    let both = rises-both n r rest up in
+    go (r .applies) (ne-eqb (r .number) 0 (λ e. omega (arith, both .0))) (first-after (r .number) rest later (both .1))
+  where
+    go : (t : Bool) → eqb (r .number) 0 ≡ false
+        → firstOf (rest ++ later) ≡ cond (eqb (firstOf rest) 0) (firstOf later) (firstOf rest)
+        → let first = cond t (r .number) (firstOf rest) in
+        cond t (r .number) (firstOf (rest ++ later)) ≡ cond (eqb first 0) (firstOf later) first
+    go true some next = rw some
+    go false some next = next

@@ -1,11 +1,11 @@
 -- Demand 1: every call returns, for all lengths and contents; each public routine judges its own input; a refused call gives
--- its number from document 01 and changes no byte that was lent (01, "Numbers a draw may return", "What must change shape").
--- That every call returns is what the check of the routines says, whose contracts have no `requires`; a buffer lent to be
--- read can't be written; the rest is below. Assumes nothing.
-use Prim.Native.Nat.{ℕ}
+-- its number from document 01 or 02 and changes no byte that was lent (01, "Numbers a draw may return", "What must change
+-- shape"; 02, W-202). That every call returns is what the check of the routines says, whose contracts have no `requires`; a
+-- buffer lent to be read can't be written; the rest is below. Assumes nothing.
+use Prim.Native.Nat.{ℕ, _<_}
 use mathlib.Core.Path.{_≡_}
 use mathlib.Core.Bool.{Bool, true, not, _&&_, _||_}
-use mathlib.Core.List.{List, [], _∷_}
+use mathlib.Core.List.{List, [], _∷_, _++_}
 use mathlib.Core.Logic.{_≢_}
 use lib.Dec.{eqb, leb, ltb}
 use lib.ListN.{length, getD}
@@ -28,6 +28,9 @@ use Rattle.gpu_records.specs.Entries.{entryOfRecord, resetRecord}
 use Rattle.gpu_records.specs.declared.affine.BgAffine.{BgAffine}
 use Rattle.gpu_records.specs.declared.entry.ObjBufferEntry.{ObjBufferEntry}
 use Rattle.gpu_draw_records.specs.Draw.{DrawsRecords}
+use Rattle.explain.specs.Reason.{refusedReason, blankReason}
+use Rattle.explain.specs.Explain.{Explains}
+use Rattle.explain.specs.declared.Reason.{Reason}
 use Rattle.thm_refusals.specs.Table.{Row, row, NoneOf, Judged}
 
 -- ---- the tables
@@ -77,6 +80,16 @@ stepTable s bytes = row 2 (not (eqb (length bytes) referencesSize)) ∷ row 6 (o
 abbrev pub pairTable : BgAffine → BgAffine → List Row
 pairTable bg2 bg3 = row 6 (outOfRange (stepsOf bg2 bg3) (referencesOf bg2 bg3)) ∷ []
 
+-- Whether each buffer of an explanation has its length: it is lent no output.
+unfoldable pub lentLengths : Memory → List ℕ → Bool
+lentLengths m entries = memoryLengths m && eqb (length entries) entriesSize
+
+-- An explanation gives a draw's numbers, and then 8 for a column of 240 or more.
+abbrev pub explainTable : Call → List ℕ → ℕ → List Row
+explainTable c entries column =
+    drawTable c (lentLengths (c .memory) entries) (shapedRow entries)
+    ++ (row 8 (leb displayWidth column) ∷ [])
+
 -- ---- the demand
 
 -- A call gives the number that its table gives, and where that isn't 0, what was lent is unchanged.
@@ -111,3 +124,9 @@ pub record Demand1 : Type 0 where
   pub step-records : (bg2 bg3 : BgAffine) {number : ℕ} {left2 left3 : BgAffine}
       → StepsRecords bg2 bg3 number left2 left3
       → Judges (pairTable bg2 bg3) number ((left2 ≡ bg2) × (left3 ≡ bg3))
+  -- Nothing is lent to be written: unchanged is that every other field is 0. Forced blank is stopped by 1 to 3 and 8 only.
+  pub explain : (c : Call) (entries : List ℕ) (column : ℕ) {r : Reason}
+      → Explains c entries column r
+      → Judges (explainTable c entries column) (r .number) (r ≡ refusedReason (r .number))
+      × (forceBlank (dispcnt (c .memory .registers)) ≡ true
+      → NoneOf 3 (explainTable c entries column) → column < displayWidth → r ≡ blankReason)

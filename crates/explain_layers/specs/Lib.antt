@@ -1,0 +1,2 @@
+-- The two layers of one column, as code names them. Assumes nothing.
+pub mod Code

@@ -1,0 +1,2 @@
+-- What a column's object entry is worked out from. Assumes nothing.
+pub mod Code

@@ -1,0 +1,3 @@
+-- Which reason fits a column, and what is proved of explanations. Assumes nothing.
+pub mod Fits
+pub mod Explanations
