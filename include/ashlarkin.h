@@ -3,18 +3,19 @@
    Link libashlarkin.a, which `rt staticlib ashlarkin` writes to target/staticlib/. It is object code for x86-64 Linux.
    include/example.c draws a whole frame.
 
-   Every function returns 0 where it did its work, and otherwise one of the numbers below. They are tested in this
-   order, the first that applies is returned, and a refusal changes no lent byte. The numbers are those of
-   docs/01-scope.md.
+   Every function answers 0 where it did its work, and otherwise one of the numbers below. They are tested in this
+   order, the first that applies is the answer, and a refusal changes no lent byte. The numbers are those of
+   docs/01-scope.md, and 8 is that of docs/02-change-requests.md. The answer is what a function returns;
+   ashlarkin_explain returns a struct whose `number` is the answer, and with a refusal every other field is 0.
 
    A buffer is a pointer and then its length in bytes. The length must be that of the memory behind the pointer: any
    length is answered (2 where it isn't the one expected), and nothing is read or written through a buffer of another
    length than the one expected. A pointer may be null only with length 0. A buffer that is written may not overlap
-   another buffer of the same call; those that are only read may overlap each other. A row of records is a pointer and
-   then its count of records, and the same holds for it.
+   another buffer of the same call; those that are only read may overlap each other, so all of ashlarkin_explain's may,
+   which writes none. A row of records is a pointer and then its count of records, and the same holds for it.
 
-   Nothing is kept between calls and nothing is allocated, so any number of threads may call at once, each with its own
-   entries and output. */
+   Nothing is kept between calls and nothing is allocated, so any number of threads may call at once, each with buffers
+   of its own where they are written. */
 #ifndef ASHLARKIN_H
 #define ASHLARKIN_H
 
@@ -29,14 +30,15 @@ extern "C" {
 #endif
 
 enum {
-    ASHLARKIN_DRAWN = 0,      /* done: all 240 pixels, the row, or the references are written */
+    ASHLARKIN_DRAWN = 0,      /* done: all 240 pixels, the row, or the references are written, or the reason is given */
     ASHLARKIN_READING = 1,    /* the reading is neither 0 nor 1 */
     ASHLARKIN_LENGTH = 2,     /* a buffer has another length */
     ASHLARKIN_LINE = 3,       /* the line is 160 or more */
     ASHLARKIN_MODE = 4,       /* forced blank off, mode 6 or 7 */
     ASHLARKIN_BRIGHTNESS = 5, /* forced blank off, reading R, low five bits of BLDY above 16 */
     ASHLARKIN_REFERENCE = 6,  /* forced blank off, a reference outside -2^28 .. 2^28 - 1 */
-    ASHLARKIN_ENTRY = 7       /* forced blank off, an entry not well shaped */
+    ASHLARKIN_ENTRY = 7,      /* forced blank off, an entry not well shaped */
+    ASHLARKIN_COLUMN = 8      /* the column is 240 or more */
 };
 
 enum {
@@ -73,6 +75,49 @@ struct ObjBufferEntry {
     uint16_t priority;
 };
 
+/* The window that a column lies in. */
+enum {
+    ASHLARKIN_REGION_NO_WINDOWS = 0,
+    ASHLARKIN_REGION_WINDOW0 = 1,
+    ASHLARKIN_REGION_WINDOW1 = 2,
+    ASHLARKIN_REGION_OBJECT_WINDOW = 3,
+    ASHLARKIN_REGION_OUTSIDE = 4 /* a window is on, and none holds it */
+};
+
+/* The layers, each the number of its bit in BLDCNT. */
+enum {
+    ASHLARKIN_LAYER_BACKGROUND0 = 0,
+    ASHLARKIN_LAYER_BACKGROUND1 = 1,
+    ASHLARKIN_LAYER_BACKGROUND2 = 2,
+    ASHLARKIN_LAYER_BACKGROUND3 = 3,
+    ASHLARKIN_LAYER_OBJECTS = 4,
+    ASHLARKIN_LAYER_BACKDROP = 5,
+    ASHLARKIN_LAYER_NONE = 6 /* forced blank */
+};
+
+/* What becomes of the top layer's colour: named by its case, not by what it changes, so white by 0 is white. */
+enum {
+    ASHLARKIN_EFFECT_NONE = 0,
+    ASHLARKIN_EFFECT_SPRITE_BLEND = 1,  /* a semi-transparent sprite's, with the layer behind it */
+    ASHLARKIN_EFFECT_CONTROL_BLEND = 2, /* BLDCNT's, with the layer behind it */
+    ASHLARKIN_EFFECT_WHITE = 3,
+    ASHLARKIN_EFFECT_BLACK = 4
+};
+
+/* Why a column has its colour. Under forced blank blank is 1, top and bottom are 6, pixel is 0xf8f8f8, and every other
+   field is 0. */
+struct ashlarkin_reason {
+    uint32_t number;                      /* 0, or the refusal; then every other field is 0 */
+    uint32_t blank;                       /* 1: forced blank, and no layer is named */
+    uint32_t region;                      /* ASHLARKIN_REGION_.. */
+    uint32_t top, bottom;                 /* ASHLARKIN_LAYER_..: the first two; nothing but the backdrop: 5 and 5 */
+    uint32_t effect;                      /* ASHLARKIN_EFFECT_.. */
+    uint16_t top_color, bottom_color;     /* as the layers have them: 15 bits, and bit 15 as it was */
+    uint16_t first_weight, second_weight; /* in sixteenths: EVA and EVB as the reading counts them, 16 - EVY and EVY, or
+                                             16 and 0 without an effect */
+    uint32_t pixel;                       /* the colour that follows, 0x00RRGGBB */
+};
+
 /* Draws one line, 0 to 159, and puts the line's sprites into the entries.
 
    x2, y2, x3, y3 are the running reference points of backgrounds 2 and 3; those in the registers aren't read. Each line
@@ -102,6 +147,14 @@ uint32_t ashlarkin_draw_records(uint32_t reading, uint32_t line, int32_t x2, int
     const uint8_t *vram, size_t vram_len, const uint8_t *palette, size_t palette_len,
     const uint8_t *oam, size_t oam_len, const uint8_t *registers, size_t registers_len,
     struct ObjBufferEntry *entries, size_t count, uint8_t *output, size_t output_len);
+
+/* Why a column, 0 to 239, has the colour that a draw on these entries gives it. It speaks of the entries as they stand
+   after that draw, and takes those from before it. Nothing is drawn, and no lent byte is written. The draw's numbers in
+   its order, and then 8; all 240 entries are judged, not the column's alone. */
+struct ashlarkin_reason ashlarkin_explain(uint32_t reading, uint32_t line, int32_t x2, int32_t y2, int32_t x3,
+    int32_t y3, const uint8_t *vram, size_t vram_len, const uint8_t *palette, size_t palette_len, const uint8_t *oam,
+    size_t oam_len, const uint8_t *registers, size_t registers_len, const uint8_t *entries, size_t entries_len,
+    uint32_t column);
 
 #ifdef __cplusplus
 }

@@ -96,9 +96,12 @@ fn the_header_is_cpp_too() {
         int main() {\n\
             uint32_t drawn = ashlarkin_draw_records(0, 0, 0, 0, 0, 0, nullptr, 0, nullptr, 0, nullptr, 0, nullptr, 0,\n\
                 row, 1, nullptr, 0);\n\
-            return int(ashlarkin_reset(nullptr, 0) * 10 + drawn + ashlarkin_step_records(&bg2, &bg3));\n\
+            ashlarkin_reason reason = ashlarkin_explain(0, 0, 0, 0, 0, 0, nullptr, 0, nullptr, 0, nullptr, 0,\n\
+                nullptr, 0, nullptr, 0, 0);\n\
+            uint32_t stepped = ashlarkin_step_records(&bg2, &bg3);\n\
+            return int(reason.number * 100 + ashlarkin_reset(nullptr, 0) * 10 + drawn + stepped);\n\
         }\n";
     fs::write(&source, text).unwrap();
     compile("g++", "-std=c++11", &source, &program);
-    assert_eq!(run(&program, &[]).status.code(), Some(22));
+    assert_eq!(run(&program, &[]).status.code(), Some(222));
 }

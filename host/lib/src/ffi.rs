@@ -1,5 +1,6 @@
 //! The proved library's functions as C sees them (`include/ashlarkin.h`). A slice is a pointer and then a length.
 
+use crate::explain::Numbers;
 use crate::records::{BgAffine, ObjBufferEntry};
 
 unsafe extern "C" {
@@ -46,4 +47,23 @@ unsafe extern "C" {
         output: *mut u8,
         output_len: usize,
     ) -> u32;
+    pub fn ashlarkin_explain(
+        reading: u32,
+        line: u32,
+        x2: i32,
+        y2: i32,
+        x3: i32,
+        y3: i32,
+        vram: *const u8,
+        vram_len: usize,
+        palette: *const u8,
+        palette_len: usize,
+        oam: *const u8,
+        oam_len: usize,
+        registers: *const u8,
+        registers_len: usize,
+        entries: *const u8,
+        entries_len: usize,
+        column: u32,
+    ) -> Numbers;
 }

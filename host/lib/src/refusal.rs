@@ -1,4 +1,4 @@
-//! The numbers of document 01.
+//! The numbers of documents 01 and 02.
 
 use std::error::Error;
 use std::fmt;
@@ -20,13 +20,15 @@ pub enum Refusal {
     Reference,
     /// 7: forced blank is off and an entry isn't well shaped.
     Entry,
-    /// A number that document 01 doesn't give. The proved library gives none.
+    /// 8: the column is 240 or more.
+    Column,
+    /// A number that neither document gives. The proved library gives none.
     Unknown(u32),
 }
 
-/// Document 01, "Numbers a draw may return", word for word; the first row is number 1.
+/// Document 01, "Numbers a draw may return", word for word, and then document 02's; the first row is number 1.
 #[rustfmt::skip]
-const TABLE: [(Refusal, &str); 7] = [
+const TABLE: [(Refusal, &str); 8] = [
     (Refusal::Reading, "reading is neither 0 nor 1"),
     (Refusal::Length, "a buffer has another length"),
     (Refusal::Line, "line 160 or more"),
@@ -34,6 +36,7 @@ const TABLE: [(Refusal, &str); 7] = [
     (Refusal::Brightness, "forced blank off, reading R, low five bits of BLDY above 16"),
     (Refusal::Reference, "forced blank off, a reference number outside -2^28 .. 2^28 - 1"),
     (Refusal::Entry, "forced blank off, an entry not well shaped"),
+    (Refusal::Column, "a column of 240 or more"),
 ];
 
 /// What a function of the library returned: 0, or a refusal's number.
@@ -55,7 +58,7 @@ impl Refusal {
         row.map_or(Refusal::Unknown(number), |row| row.0)
     }
 
-    /// The number in document 01.
+    /// The number in document 01 or 02.
     ///
     /// ```
     /// assert_eq!(ashlarkin::Refusal::Line.number(), 3);
@@ -69,18 +72,19 @@ impl Refusal {
             Refusal::Brightness => 5,
             Refusal::Reference => 6,
             Refusal::Entry => 7,
+            Refusal::Column => 8,
             Refusal::Unknown(number) => number,
         }
     }
 
-    /// What the number means, in document 01's words.
+    /// What the number means, in the documents' words.
     ///
     /// ```
     /// assert_eq!(ashlarkin::Refusal::Line.meaning(), "line 160 or more");
     /// ```
     pub fn meaning(self) -> &'static str {
         let row = TABLE.iter().find(|row| row.0 == self);
-        row.map_or("a number that document 01 doesn't give", |row| row.1)
+        row.map_or("a number that documents 01 and 02 don't give", |row| row.1)
     }
 }
 
@@ -97,7 +101,7 @@ mod tests {
     use super::*;
 
     #[test]
-    fn the_table_is_document_01s() {
+    fn the_table_is_the_documents() {
         let document = include_str!("../../../docs/01-scope.md");
         let section = document.split("## ").find(|s| s.starts_with("Numbers a draw may return"));
         let rows = section.unwrap().lines().filter_map(|line| {
@@ -106,7 +110,9 @@ mod tests {
             (number != 0).then(|| (number, cells[2]))
         });
         let table = TABLE.map(|(refusal, meaning)| (refusal.number(), meaning));
-        assert_eq!(rows.collect::<Vec<_>>(), table);
+        assert_eq!(rows.collect::<Vec<_>>(), table[..7]);
+        let requests = include_str!("../../../docs/02-change-requests.md");
+        assert!(table[7..].iter().all(|(number, meaning)| requests.contains(&format!("{number} for {meaning}"))));
     }
 
     #[test]
@@ -116,6 +122,7 @@ mod tests {
         }
         assert_eq!(answer(0), Ok(()));
         assert_eq!(answer(7), Err(Refusal::Entry));
-        assert_eq!(answer(8), Err(Refusal::Unknown(8)));
+        assert_eq!(answer(8), Err(Refusal::Column));
+        assert_eq!(answer(9), Err(Refusal::Unknown(9)));
     }
 }

@@ -1,4 +1,5 @@
-//! Every number of document 01, asked for through the wrapper: a refusal changes no byte, a draw writes every pixel.
+//! Every number of documents 01 and 02, asked for through the wrapper: a refusal changes no byte, a draw writes every
+//! pixel, a reason changes nothing.
 
 use std::thread;
 
@@ -42,18 +43,42 @@ impl Lent {
         draw(&input, entries, output)
     }
 
+    /// The reason of a column, which changes no byte of what is lent.
+    fn explain(&self, column: u32) -> Result<Reason, Refusal> {
+        let before = self.clone();
+        let Lent { reading, line, references, vram, palette, oam, registers, entries, .. } = self;
+        let input = Input { reading: *reading, line: *line, references: *references, vram, palette, oam, registers };
+        let said = explain(&input, entries, column);
+        assert!(self.memories() == before.memories() && *entries == before.entries, "{said:?} changed a byte");
+        said
+    }
+
+    fn memories(&self) -> [&Vec<u8>; 4] {
+        [&self.vram, &self.palette, &self.oam, &self.registers]
+    }
+
     fn buffers(&mut self) -> [&mut Vec<u8>; 6] {
         [&mut self.vram, &mut self.palette, &mut self.oam, &mut self.registers, &mut self.entries, &mut self.output]
     }
 }
 
 /// A draw after `change` is refused so, and leaves both buffers as they were.
-fn refused(refusal: Refusal, change: impl Fn(&mut Lent)) {
+fn undrawn(refusal: Refusal, change: impl Fn(&mut Lent)) {
     let mut lent = Lent::new();
     change(&mut lent);
     let before = lent.clone();
     assert_eq!(lent.draw(), Err(refusal));
     assert!(lent.entries == before.entries && lent.output == before.output, "{refusal:?} changed a byte");
+}
+
+/// Draw and reasons after `change` are refused so, those of columns that there aren't too.
+fn refused(refusal: Refusal, change: impl Fn(&mut Lent)) {
+    let mut lent = Lent::new();
+    change(&mut lent);
+    for column in [0, 239, 240] {
+        assert_eq!(lent.explain(column), Err(refusal), "column {column}");
+    }
+    undrawn(refusal, change);
 }
 
 fn drawn(change: impl Fn(&mut Lent)) -> Lent {
@@ -90,7 +115,9 @@ fn every_other_length_is_refused() {
     for at in 0..6 {
         let whole = Lent::new().buffers()[at].len();
         for len in [0, 1, whole / 2, whole - 1, whole + 1, 2 * whole] {
-            refused(Refusal::Length, |lent| lent.buffers()[at].resize(len, 0));
+            let cut = |lent: &mut Lent| lent.buffers()[at].resize(len, 0);
+            // The output isn't lent for a reason.
+            if at < 5 { refused(Refusal::Length, cut) } else { undrawn(Refusal::Length, cut) }
         }
     }
 }
@@ -108,6 +135,61 @@ fn the_first_that_applies_is_given() {
     ];
     for (at, number) in (0..7).zip(1..) {
         refused(Refusal::of(number), |lent| faults[at..].iter().for_each(|fault| fault(lent)));
+    }
+}
+
+/// 8 comes last: a reason has no other fault, forced blank or not.
+#[test]
+fn a_column_that_there_isnt_is_refused() {
+    for control in [0, 0x80] {
+        let mut lent = Lent::new();
+        lent.registers[0] = control;
+        for column in [0, 239] {
+            assert!(lent.explain(column).is_ok(), "column {column}");
+        }
+        for column in [240, 241, 255, 256, 1 << 16, 1 << 31, u32::MAX] {
+            assert_eq!(lent.explain(column), Err(Refusal::Column), "column {column}");
+        }
+    }
+    assert_eq!((Refusal::Column.number(), Refusal::of(8)), (8, Refusal::Column));
+}
+
+/// Forced blank isn't stopped by 4 to 7, and names no layer.
+#[test]
+fn forced_blank_is_its_own_reason() {
+    let mut lent = Lent::new();
+    (lent.registers[0], lent.registers[0x54]) = (0x87, 31);
+    lent.references = [i32::MAX; 4];
+    lent.entries.fill(0xff);
+    let said = lent.explain(239);
+    assert_eq!(said, Ok(Reason::ForcedBlank));
+    assert_eq!(said.map(|reason| reason.pixel()), Ok(0xf8f8f8));
+}
+
+/// A row with a semi-transparent object in front of the backdrop, blended under each reading by its own weights.
+#[test]
+fn a_reason_has_the_readings_weights() {
+    let mut lent = Lent::new();
+    (lent.palette[0], lent.palette[1], lent.registers[1]) = (10, 0x80, 0x10);
+    (lent.registers[0x51], lent.registers[0x52], lent.registers[0x53]) = (0x20, 8, 31);
+    lent.entries[4..8].copy_from_slice(&[20, 0, 3, 1]);
+    for (reading, second_weight, pixel) in [(READING_R, 31, 29 << 19), (READING_H, 16, 20 << 19)] {
+        lent.reading = reading;
+        let expected = Shown {
+            region: Region::NoWindows,
+            top: Layer::Objects,
+            bottom: Layer::Backdrop,
+            effect: Effect::SpriteBlend,
+            top_color: 20,
+            bottom_color: 0x800a,
+            first_weight: 8,
+            second_weight,
+            pixel,
+        };
+        assert_eq!(lent.explain(1), Ok(Reason::Shown(expected)));
+        let mut drawn = lent.clone();
+        assert_eq!(drawn.draw(), Ok(()));
+        assert_eq!(drawn.output[4..8], pixel.to_le_bytes());
     }
 }
 

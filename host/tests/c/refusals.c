@@ -1,4 +1,5 @@
-/* The library's refusals as a C program meets them: each number is returned, no lent byte changes, nor any beside. */
+/* The library's refusals as a C program meets them: each number is returned, no lent byte changes, nor any beside. And
+   what C alone sees of a reason: every field of it, with a refusal and under forced blank, too. */
 #include <stdio.h>
 #include <stdlib.h>
 #include <string.h>
@@ -203,12 +204,164 @@ static void records(void)
     check(!memcmp(&bg2, &stepped2, sizeof bg2) && !memcmp(&bg3, &stepped3, sizeof bg3), "both records stay", 0);
 }
 
+_Static_assert(sizeof(struct ashlarkin_reason) == 36, "a reason has no gaps");
+
+/* The five buffers that are lent for a reason, as they were. */
+static uint8_t lent_before[5][sizeof vram];
+
+static struct ashlarkin_reason explain(uint32_t reading, uint32_t line, int32_t x2, const size_t lens[6],
+    uint32_t column)
+{
+    for (int i = 0; i < 5; i++)
+        memcpy(lent_before[i], buffers[i], expected[i] + SPARE);
+    const struct ashlarkin_reason reason = ashlarkin_explain(reading, line, x2, 0, 0, 0, lens[0] ? vram : NULL, lens[0],
+        lens[1] ? palette : NULL, lens[1], lens[2] ? oam : NULL, lens[2], lens[3] ? registers : NULL, lens[3],
+        lens[4] ? entries : NULL, lens[4], column);
+    for (int i = 0; i < 5; i++)
+        check(!memcmp(lent_before[i], buffers[i], expected[i] + SPARE), "a reason changes no byte", (size_t)i);
+    return reason;
+}
+
+/* Every field. */
+static int same(struct ashlarkin_reason a, struct ashlarkin_reason b)
+{
+    return a.number == b.number && a.blank == b.blank && a.region == b.region && a.top == b.top
+        && a.bottom == b.bottom && a.effect == b.effect && a.top_color == b.top_color
+        && a.bottom_color == b.bottom_color && a.first_weight == b.first_weight
+        && a.second_weight == b.second_weight && a.pixel == b.pixel;
+}
+
+static void unexplained(uint32_t number, uint32_t reading, uint32_t line, int32_t x2, const size_t lens[6],
+    uint32_t column)
+{
+    const struct ashlarkin_reason refusal = {.number = number};
+    check(same(explain(reading, line, x2, lens, column), refusal), "a reason is refused, every other field 0", number);
+}
+
+/* All faults from a number on: the first of them is given. */
+static void unexplained_in_order(void)
+{
+    for (uint32_t first = ASHLARKIN_READING; first <= ASHLARKIN_COLUMN; first++) {
+        size_t lens[6];
+        memcpy(lens, expected, sizeof lens);
+        fresh();
+        lens[4] -= first <= ASHLARKIN_LENGTH;
+        registers[0] = first <= ASHLARKIN_MODE ? 7 : 0;
+        registers[0x54] = first <= ASHLARKIN_BRIGHTNESS ? 17 : 16;
+        entries[959] = first <= ASHLARKIN_ENTRY ? 4 : 0;
+        unexplained(first, first <= ASHLARKIN_READING ? 2 : 0, first <= ASHLARKIN_LINE ? 160 : 159,
+            first <= ASHLARKIN_REFERENCE ? 1 << 28 : 0, lens, 240);
+    }
+}
+
+static void unexplained_one_by_one(void)
+{
+    const size_t none[6] = {0};
+    fresh();
+    unexplained(ASHLARKIN_LENGTH, 0, 0, 0, none, 0);
+    for (int i = 0; i < 5; i++) {
+        const size_t wrong[6] = {0, 1, expected[i] / 2, expected[i] - 1, expected[i] + 1, expected[i] + SPARE};
+        for (int j = 0; j < 6; j++) {
+            size_t lens[6];
+            memcpy(lens, expected, sizeof lens);
+            lens[i] = wrong[j];
+            unexplained(ASHLARKIN_LENGTH, 0, 160, 0, lens, 0);
+        }
+    }
+    unexplained(ASHLARKIN_READING, 2, 0, 0, expected, 0);
+    unexplained(ASHLARKIN_LINE, 0, 160, 0, expected, 0);
+    unexplained(ASHLARKIN_REFERENCE, 0, 0, 1 << 28, expected, 0);
+    unexplained(ASHLARKIN_COLUMN, 0, 0, 0, expected, 240);
+    unexplained(ASHLARKIN_COLUMN, 1, 159, 0, expected, UINT32_MAX);
+    registers[0] = 7;
+    unexplained(ASHLARKIN_MODE, 0, 0, 0, expected, 0);
+    unexplained(ASHLARKIN_MODE, 0, 0, 0, expected, 240);
+    registers[0] = 0;
+    registers[0x54] = 17;
+    unexplained(ASHLARKIN_BRIGHTNESS, 0, 0, 0, expected, 0);
+    registers[0x54] = 0;
+    entries[2] = 5; /* not the column's own */
+    unexplained(ASHLARKIN_ENTRY, 1, 0, 0, expected, 239);
+}
+
+/* Forced blank isn't stopped by 4 to 7. All buffers may be the same memory, since none is written. */
+static void explained_blank(void)
+{
+    const struct ashlarkin_reason blank = {.blank = 1, .top = ASHLARKIN_LAYER_NONE, .bottom = ASHLARKIN_LAYER_NONE,
+        .pixel = 0xf8f8f8};
+    fresh();
+    registers[0] = 0x87;
+    registers[0x54] = 17;
+    entries[2] = 5;
+    check(same(explain(0, 0, 1 << 28, expected, 239), blank), "forced blank", 0);
+    unexplained(ASHLARKIN_COLUMN, 0, 0, 0, expected, 240);
+    vram[0] = 0x80;
+    check(same(ashlarkin_explain(1, 159, 0, 0, 0, 0, vram, ASHLARKIN_VRAM_LEN, vram, ASHLARKIN_PALETTE_LEN, vram,
+                   ASHLARKIN_OAM_LEN, vram, ASHLARKIN_REGISTERS_LEN, vram, ASHLARKIN_ENTRIES_LEN, 0),
+              blank),
+        "one memory for all", 0);
+}
+
+/* A row of mode 3 on line 159, a semi-transparent sprite over its first 8 columns, and window 0 around those. */
+static void scene(void)
+{
+    fresh();
+    registers[0] = 3;
+    registers[1] = 0x34; /* background 2, sprites, window 0 */
+    registers[0x0c] = 3; /* background 2's priority */
+    registers[0x21] = 1; /* a pixel a column */
+    registers[0x40] = 8; /* window 0's columns 0 to 7 .. */
+    registers[0x44] = 160;
+    registers[0x48] = 0x14; /* .. show background 2 and sprites, without effects */
+    registers[0x51] = 0x04; /* second target: background 2 */
+    registers[0x52] = 8;
+    registers[0x53] = 31; /* H counts it as 16 */
+    palette[0] = 3;
+    palette[1] = 0x80;
+    palette[0x202] = 20;
+    oam[0] = 159;
+    oam[1] = 0x04;
+    oam[5] = 0x0a; /* priority 2, tile 512 */
+    for (size_t i = 8; i < ASHLARKIN_OAM_LEN; i += 8)
+        oam[i + 1] = 0x02; /* hidden */
+    memset(vram + 0x14000, 0x11, 4);
+    for (size_t i = 0; i < 2 * ASHLARKIN_RECORDS_COUNT; i++)
+        vram[i] = i % 2 ? 0x80 : 10;
+}
+
+static void explained(void)
+{
+    scene();
+    struct ashlarkin_reason blended = {0, 0, ASHLARKIN_REGION_WINDOW0, ASHLARKIN_LAYER_OBJECTS,
+        ASHLARKIN_LAYER_BACKGROUND2, ASHLARKIN_EFFECT_SPRITE_BLEND, 20, 0x800a, 8, 16, 20 << 19};
+    check(same(explain(1, 159, 0, expected, 0), blended), "a sprite's blend under H", 0);
+    check(same(explain(1, 159, 0, expected, 7), blended), "a sprite's blend under H", 7);
+    blended.second_weight = 31;
+    blended.pixel = 29 << 19; /* (20 * 8 + 10 * 31) / 16, rounded down */
+    check(same(explain(0, 159, 0, expected, 7), blended), "a sprite's blend under R", 7);
+    const struct ashlarkin_reason backdrop = {0, 0, ASHLARKIN_REGION_OUTSIDE, ASHLARKIN_LAYER_BACKDROP,
+        ASHLARKIN_LAYER_BACKDROP, ASHLARKIN_EFFECT_NONE, 0x8003, 0x8003, 16, 0, 3 << 19};
+    check(same(explain(0, 159, 0, expected, 8), backdrop), "the backdrop outside", 8);
+    check(same(explain(0, 159, 0, expected, 239), backdrop), "the backdrop outside", 239);
+
+    uint32_t pixels[ASHLARKIN_RECORDS_COUNT];
+    for (uint32_t column = 0; column < ASHLARKIN_RECORDS_COUNT; column++)
+        pixels[column] = explain(0, 159, 0, expected, column).pixel;
+    check(draw(0, 159, 0, expected) == ASHLARKIN_DRAWN, "a draw of what was explained", 0);
+    for (size_t i = 0; i < ASHLARKIN_OUTPUT_LEN; i++)
+        check(output[i] == (uint8_t)(pixels[i / 4] >> 8 * (i % 4)), "the pixel is the drawn one", i / 4);
+}
+
 int main(void)
 {
     wrong_lengths();
     other_refusals();
     done();
     records();
+    unexplained_in_order();
+    unexplained_one_by_one();
+    explained_blank();
+    explained();
     printf("refusals from C: %d checks\n", tried);
     return 0;
 }
