@@ -23,6 +23,9 @@ fn every_mode_is_measured() {
         assert!((values[0] / values[1] - values[2]).abs() < 0.02, "{line}");
     }
     assert!(lines.last().unwrap().starts_with("ratio: "), "{lines:?}");
+    let reasons = lines.iter().find_map(|line| line.strip_prefix("a frame of reasons: ")).unwrap();
+    let time = reasons.strip_suffix(" ms for 38400 columns").unwrap();
+    assert!(time.parse::<f64>().unwrap() > 0.0, "{reasons}");
 }
 
 #[test]
@@ -35,7 +38,7 @@ fn json_has_the_same() {
     let ratios: Vec<f64> = rows.iter().map(|row| row["ratio"].as_f64().unwrap()).collect();
     let lowest = ratios.iter().copied().fold(f64::INFINITY, f64::min);
     assert_eq!(object["ratio"]["lowest"].as_f64(), Some(lowest));
-    for name in ["read_ms", "draw_ms", "png_ms", "process_ms"] {
+    for name in ["read_ms", "draw_ms", "png_ms", "reasons_ms", "process_ms"] {
         assert!(object["frame"][name].as_f64().unwrap() > 0.0, "{name}");
     }
     let growth = object["growth"].as_array().unwrap();

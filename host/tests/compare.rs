@@ -45,7 +45,20 @@ fn library_and_oracle_agree() {
     let by_number = lines.iter().find(|line| line.starts_with("draws on records by number: 0 ")).unwrap();
     assert!((1..=7).all(|number| by_number.contains(&format!(", {number} "))), "{by_number}");
     assert!(by_number.contains("; steps on records: 0 ") && by_number.ends_with(" times"), "{by_number}");
+    explained_all_over(&lines);
     assert!(names(&folder).is_empty());
+}
+
+/// Every 9th case is explained: every number, region and effect is among the columns.
+fn explained_all_over(lines: &[String]) {
+    let by_number = lines.iter().find(|line| line.contains(" columns explained, by number: 0 ")).unwrap();
+    assert!(number(by_number) > 222 * 240, "{by_number}");
+    assert!((1..=8).all(|number| by_number.contains(&format!(", {number} "))), "{by_number}");
+    let by_name = lines.iter().find(|line| line.starts_with("by region: no windows ")).unwrap();
+    let counts: Vec<u64> =
+        by_name.split([',', ';']).map(|part| part.split(' ').next_back().unwrap().parse().unwrap()).collect();
+    assert!(counts.len() == 10 && counts.iter().all(|count| *count > 0), "{by_name}");
+    assert_eq!(counts[..5].iter().sum::<u64>(), counts[5..].iter().sum::<u64>(), "{by_name}");
 }
 
 #[test]
@@ -91,6 +104,16 @@ fn a_difference_is_found_kept_and_replayed() {
         ("record@37", "draw on records 0", "record 239 ObjBufferEntry {"),
         ("record@7", "draw on records ", "record 239 ObjBufferEntry {"),
         ("background@150", "step on records 0", "background 3 BgAffine {"),
+        // What no pixel shows: a reason's parts, one by one.
+        ("region@18", "reasons 0", "column 239: region "),
+        ("layer@9", "reasons 0", "column 239: bottom "),
+        ("effect@36", "reasons 0", "column 239: effect "),
+        ("weight@45", "reasons 0", "column 239: weights "),
+        ("color@81", "reasons 0", "column 239: colours "),
+        ("blank@63", "reasons ", "column 239: Ok(ForcedBlank) and Ok(Shown("),
+        ("shown@72", "reasons 0", "column 239: pixel 0x"),
+        // Forced blank doesn't let such a column pass.
+        ("refusal@27", "reasons 0", "column 4294967295: Err(Length) and Err(Column)"),
     ] {
         let case = flip.split('@').nth(1).unwrap();
         let run = compare(&folder, &["--cases", "300", "--seed", "1", "--keep", "kept.json", "--flip-for-test", flip]);

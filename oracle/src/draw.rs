@@ -70,6 +70,11 @@ impl Oracle {
         }
     }
 
+    /// A background's row as the last draw made it, 0x8000 where it is transparent. One that is off has an older row.
+    pub fn background(&self, number: usize) -> Vec<u16> {
+        self.gpu.bg_line[number].iter().map(|color| color.0).collect()
+    }
+
     /// Runs the Rust; a panic comes back as its message, and the next call starts from a new `Gpu`.
     pub(crate) fn caught<T>(&mut self, run: impl FnOnce(&mut Oracle) -> T) -> Result<T, String> {
         catch_unwind(AssertUnwindSafe(|| run(&mut *self))).map_err(|payload| {

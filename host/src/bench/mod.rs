@@ -3,11 +3,13 @@
 mod growth;
 mod turn;
 
+use std::hint::black_box;
 use std::path::PathBuf;
 use std::process::Command;
 use std::time::{Duration, Instant};
 
 use anyhow::{Context, Result, ensure};
+use ashlarkin::{ENTRIES_LEN, HEIGHT, WIDTH};
 use ashlarkin_oracle::cases::{Cases, Draw, Kind};
 use serde_json::{Value, json};
 
@@ -54,6 +56,8 @@ struct Cost {
     read: f64,
     draw: f64,
     png: f64,
+    /// Every column explained; the Rust has no such thing to be timed against.
+    reasons: f64,
     process: f64,
 }
 
@@ -110,6 +114,8 @@ fn turns_of_scene() -> Result<Vec<Turn>> {
 /// What a frame costs, and what the process around it costs.
 fn cost() -> Result<Cost> {
     const TIMES: usize = 20;
+    // Each is much longer than a frame's drawing.
+    const REASONS_TIMES: usize = 5;
     let capture = Capture::of_state(SCENE)?;
     let frame = frame::draw(&capture, Reading::R)?;
     let itself = std::env::current_exe()?;
@@ -117,8 +123,22 @@ fn cost() -> Result<Cost> {
         read: milliseconds(TIMES, || Capture::of_state(SCENE).map(drop))?,
         draw: milliseconds(TIMES, || frame::draw(&capture, Reading::R).map(drop))?,
         png: milliseconds(TIMES, || frame.png(1).map(drop))?,
+        reasons: milliseconds(REASONS_TIMES, || explain_all(&capture))?,
         process: milliseconds(TIMES, || Ok(Command::new(&itself).arg("--version").output().map(drop)?))?,
     })
+}
+
+/// Explains every column of a frame, each line on reset entries.
+fn explain_all(capture: &Capture) -> Result<()> {
+    let mut entries = [0; ENTRIES_LEN];
+    ashlarkin::reset(&mut entries)?;
+    for input in frame::lines(capture, Reading::R) {
+        let input = input?;
+        for column in 0..WIDTH as u32 {
+            black_box(ashlarkin::explain(&input, &entries, column)?);
+        }
+    }
+    Ok(())
 }
 
 /// The median time of one run.
@@ -159,10 +179,11 @@ impl Report {
             lines.push(heading(&format!("lines a second, {name}")));
             lines.extend(rows.iter().map(Row::text));
         }
-        if let Some(Cost { read, draw, png, process }) = self.cost {
+        if let Some(Cost { read, draw, png, reasons, process }) = self.cost {
             lines.push(format!(
                 "a frame of the sample scene: {read:.2} ms read, {draw:.2} ms drawn, {png:.2} ms made a PNG"
             ));
+            lines.push(format!("a frame of reasons: {reasons:.2} ms for {} columns", HEIGHT as usize * WIDTH));
             lines.push(format!("a process that draws nothing: {process:.2} ms"));
         }
         if let Some((lowest, middle)) = self.summary() {
@@ -180,7 +201,10 @@ impl Report {
     fn json(&self) -> String {
         let rows = |rows: &[Row]| rows.iter().map(Row::json).collect::<Vec<Value>>();
         let growth = self.growth.iter().map(|(name, points)| json!({ "name": name, "points": rows(points) }));
-        let cost = |Cost { read, draw, png, process }: &Cost| json!({ "read_ms": read, "draw_ms": draw, "png_ms": png, "process_ms": process });
+        let cost = |cost: &Cost| {
+            let Cost { read, draw, png, reasons, process } = cost;
+            json!({ "read_ms": read, "draw_ms": draw, "png_ms": png, "reasons_ms": reasons, "process_ms": process })
+        };
         let ratio = self.summary().map(|(lowest, middle)| json!({ "median": middle, "lowest": lowest.ratio() }));
         json!({
             "lines_per_second": rows(&self.rows),

@@ -1,9 +1,11 @@
 //! A changed answer of the library, so that the tests of the command see a difference found, kept and replayed. Only
 //! the hidden option `--flip-for-test` asks for it.
 
+use ashlarkin::{Effect, Layer, Reason, Refusal, Region, WIDTH};
 use ashlarkin_oracle::Answer;
 use clap::ValueEnum;
 
+use super::reasons::Said;
 use super::work::{Given, Work};
 
 /// What to change, in the case of this number.
@@ -22,6 +24,14 @@ enum Flipped {
     Reset,
     Record,
     Background,
+    Region,
+    Layer,
+    Effect,
+    Weight,
+    Color,
+    Shown,
+    Blank,
+    Refusal,
 }
 
 impl Flip {
@@ -49,6 +59,7 @@ impl Flip {
                 last.backgrounds[1].x ^= 1;
                 return;
             }
+            (what, Work::Reasons(_)) => return change_reason(what, &mut last.reasons),
             (Flipped::Entry, Work::Draws(_)) | (Flipped::Reset, Work::Reset(_)) => &mut last.entries,
             (Flipped::Pixel, Work::Draws(_)) => &mut last.output,
             (Flipped::Step, Work::Step { .. }) => &mut last.references,
@@ -58,4 +69,29 @@ impl Flip {
             *byte ^= 1;
         }
     }
+}
+
+/// Puts a wrong reason at the last column that there is, or another refusal at one that there isn't. All but one leave
+/// the pixel as it is, so that nothing drawn shows them.
+fn change_reason(what: Flipped, said: &mut [Said]) {
+    let column = if what == Flipped::Refusal { said.len() - 1 } else { WIDTH - 1 };
+    match (what, &mut said[column]) {
+        (Flipped::Refusal, said) => *said = Err(Refusal::Length),
+        (Flipped::Blank, said) => *said = Ok(Reason::ForcedBlank),
+        (what, Ok(Reason::Shown(shown))) => match what {
+            Flipped::Region => shown.region = other(shown.region, [Region::Outside, Region::Window0]),
+            Flipped::Layer => shown.bottom = other(shown.bottom, [Layer::Backdrop, Layer::Objects]),
+            Flipped::Effect => shown.effect = other(shown.effect, [Effect::None, Effect::SpriteBlend]),
+            Flipped::Weight => shown.second_weight ^= 1,
+            Flipped::Color => shown.bottom_color ^= 0x8000,
+            Flipped::Shown => shown.pixel ^= 8,
+            _ => {}
+        },
+        _ => {}
+    }
+}
+
+/// Of two, one that it isn't.
+fn other<T: Copy + PartialEq>(it: T, [first, second]: [T; 2]) -> T {
+    if it == first { second } else { first }
 }

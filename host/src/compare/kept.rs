@@ -92,7 +92,7 @@ mod tests {
     fn bad_edits_are_told() {
         let works = Work::of(&mut Cases::new(5), 5, 0).into_iter();
         let texts: Vec<String> = works.map(|work| String::from_utf8(kept(0, work).text().unwrap()).unwrap()).collect();
-        let [draws, step, reset, record_draws, record_step] = &texts[..] else { panic!("five works") };
+        let [draws, step, reset, record_draws, record_step, reasons] = &texts[..] else { panic!("six works") };
         for (text, from, to, words) in [
             (step, r#""seed": 5"#, r#""seed": x"#, "expected value at line 3"),
             (step, r#""seed": 5"#, r#""seed": -5"#, "invalid value: integer `-5`, expected u64 at line 3"),
@@ -108,6 +108,8 @@ mod tests {
             (record_draws, r#""alpha": false"#, r#""alpha": 0"#, "invalid type: integer `0`, expected a boolean"),
             (record_draws, r#""priority": "#, r#""priority": 99999"#, "expected u16"),
             (record_step, r#""pa": "#, r#""pb": "#, "duplicate field `pb`"),
+            (reasons, r#""line": "#, r#""column": 7, "line": "#, "unknown field `column`"),
+            (reasons, r#""vram_len": "#, r#""vram_len": 9"#, "vram_len is 9131072, and vram has 131136 bytes"),
         ] {
             assert!(text.contains(from), "{from}");
             let error = Kept::of_text(text.replacen(from, to, 1).as_bytes()).err().expect("refused");

@@ -2,6 +2,7 @@
 
 mod flip;
 mod kept;
+mod reasons;
 mod records;
 mod tally;
 mod work;

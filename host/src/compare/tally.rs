@@ -2,10 +2,11 @@
 
 use std::time::Duration;
 
-use ashlarkin::Refusal;
+use ashlarkin::{Reason, Refusal};
 use ashlarkin_oracle::Answer;
 use ashlarkin_oracle::cases::Kind;
 
+use super::reasons::Said;
 use super::work::{Given, Work};
 
 const KINDS: [(Kind, &str); 4] = [
@@ -15,8 +16,11 @@ const KINDS: [(Kind, &str); 4] = [
     (Kind::Chain, "chains on one row"),
 ];
 
-/// By number 0 to 7; the last place is for anything else.
-type Numbers = [u64; 9];
+const REGIONS: [&str; 5] = ["no windows", "window 0", "window 1", "object window", "outside"];
+const EFFECTS: [&str; 5] = ["none", "sprite blend", "control blend", "white", "black"];
+
+/// By number 0 to 8; the last place is for anything else.
+type Numbers = [u64; 10];
 
 #[derive(Default)]
 pub struct Tally {
@@ -27,6 +31,10 @@ pub struct Tally {
     resets: Numbers,
     record_draws: Numbers,
     record_steps: Numbers,
+    /// Columns that were explained.
+    columns: Numbers,
+    regions: [u64; REGIONS.len()],
+    effects: [u64; EFFECTS.len()],
 }
 
 impl Tally {
@@ -38,17 +46,26 @@ impl Tally {
             Work::Reset(_) => &mut self.resets,
             Work::RecordDraws(_) => &mut self.record_draws,
             Work::RecordStep(_) => &mut self.record_steps,
+            Work::Reasons(_) => {
+                return given.iter().flat_map(|given| &given.reasons).for_each(|said| self.explain(said));
+            }
         };
         for Given { answer, .. } in given {
-            let place = match answer {
-                Answer::Number(number @ 0..=7) => *number as usize,
-                _ => 8,
-            };
-            numbers[place] += 1;
+            numbers[place(answer)] += 1;
         }
         if let Work::Draws(case) = work {
             let place = KINDS.iter().position(|(kind, _)| *kind == case.kind);
             self.kinds[place.unwrap_or_default()] += given.len() as u64;
+        }
+    }
+
+    /// Counts what the oracle's line says of a column.
+    fn explain(&mut self, said: &Said) {
+        let number = said.map_or_else(|refusal| refusal.number(), |_| 0);
+        self.columns[place(&Answer::Number(number))] += 1;
+        if let Ok(Reason::Shown(shown)) = said {
+            self.regions[shown.region as usize] += 1;
+            self.effects[shown.effect as usize] += 1;
         }
     }
 
@@ -60,6 +77,9 @@ impl Tally {
         add(&mut self.resets, &other.resets);
         add(&mut self.record_draws, &other.record_draws);
         add(&mut self.record_steps, &other.record_steps);
+        add(&mut self.columns, &other.columns);
+        add(&mut self.regions, &other.regions);
+        add(&mut self.effects, &other.effects);
         self
     }
 
@@ -77,11 +97,28 @@ impl Tally {
         lines.push(format!("  {record_draws} draws on records, {record_steps} steps on records"));
         let [by_draws, by_steps] = [&self.record_draws, &self.record_steps].map(by_number);
         lines.push(format!("  draws on records by number: {by_draws}; steps on records: {by_steps}"));
+        lines.push(format!("  {} columns explained, by number: {}", sum(self.columns), by_number(&self.columns)));
+        lines.push(format!(
+            "  by region: {}; by effect: {}",
+            named(REGIONS, self.regions),
+            named(EFFECTS, self.effects)
+        ));
         let rate = (draws + record_draws) as f64 / time.as_secs_f64();
         let threads = rayon::current_num_threads();
         lines.push(format!("  {rate:.0} draws a second on both sides, cases made and compared, {threads} threads"));
         lines.join("\n")
     }
+}
+
+fn place(answer: &Answer) -> usize {
+    match answer {
+        Answer::Number(number @ 0..=8) => *number as usize,
+        _ => 9,
+    }
+}
+
+fn named(names: [&str; 5], counts: [u64; 5]) -> String {
+    names.iter().zip(counts).map(|(name, count)| format!("{name} {count}")).collect::<Vec<_>>().join(", ")
 }
 
 fn add<const N: usize>(sum: &mut [u64; N], other: &[u64; N]) {

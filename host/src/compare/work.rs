@@ -5,6 +5,7 @@ use ashlarkin_oracle::Answer;
 use ashlarkin_oracle::cases::{self, Case, Cases, Draw, Loaded};
 use serde::{Deserialize, Serialize};
 
+use super::reasons::{self, Said};
 use super::records::{self, RecordCase};
 
 /// One piece of work of a case.
@@ -25,6 +26,8 @@ pub enum Work {
     RecordDraws(RecordCase),
     /// A line-end step on records.
     RecordStep([BgAffine; 2]),
+    /// Why the columns of draws have their colours, each on the row as it is before the draw. There is no output.
+    Reasons(Case),
 }
 
 /// What a side gave for one call: its answer, and what was lent afterwards; what wasn't lent is empty.
@@ -36,21 +39,26 @@ pub struct Given {
     pub references: Vec<u8>,
     pub row: Vec<ObjBufferEntry>,
     pub backgrounds: Vec<BgAffine>,
+    /// What was said of the columns.
+    pub reasons: Vec<Said>,
 }
 
 impl Given {
     fn new(answer: Answer) -> Given {
-        Given { answer, entries: vec![], output: vec![], references: vec![], row: vec![], backgrounds: vec![] }
+        let (entries, output, references) = (vec![], vec![], vec![]);
+        Given { answer, entries, output, references, row: vec![], backgrounds: vec![], reasons: vec![] }
     }
 }
 
-/// Someone who draws, steps and resets.
+/// Someone who draws, steps, resets and explains.
 pub trait Side {
     fn draw(&mut self, draw: &Draw, entries: &mut [u8], output: &mut [u8]) -> Answer;
     fn step(&mut self, steps: [i16; 4], references: &mut [u8]) -> Answer;
     fn reset(&mut self, entries: &mut [u8]) -> Answer;
     fn draw_records(&mut self, draw: &Draw, row: &mut [ObjBufferEntry], output: &mut [u8]) -> Answer;
     fn step_records(&mut self, backgrounds: &mut [BgAffine; 2]) -> Answer;
+    /// What is said of each of `reasons::columns`, and the answer for the draw.
+    fn explain(&mut self, draw: &Draw, entries: &[u8]) -> (Answer, Vec<Said>);
 }
 
 /// The proved library.
@@ -82,6 +90,12 @@ impl Side for Library {
 
     fn step_records(&mut self, [bg2, bg3]: &mut [BgAffine; 2]) -> Answer {
         number(ashlarkin::step_records(bg2, bg3))
+    }
+
+    fn explain(&mut self, draw: &Draw, entries: &[u8]) -> (Answer, Vec<Said>) {
+        let input = input(draw);
+        let said: Vec<Said> = reasons::columns().map(|column| ashlarkin::explain(&input, entries, column)).collect();
+        (number(said[0].map(drop)), said)
     }
 }
 
@@ -118,6 +132,10 @@ impl Side for Oracle {
         (bg2.internal_x, bg2.internal_y, bg3.internal_x, bg3.internal_y) = (x2, y2, x3, y3);
         answer
     }
+
+    fn explain(&mut self, draw: &Draw, entries: &[u8]) -> (Answer, Vec<Said>) {
+        reasons::worked_out(&mut self.draws, draw, entries)
+    }
 }
 
 fn number(result: Result<(), ashlarkin::Refusal>) -> Answer {
@@ -132,21 +150,24 @@ pub fn input(draw: &Draw) -> Input<'_> {
 
 impl Work {
     /// The work of a case. Each has a step and a reset, too; rows of every length up to a few bytes too many are reset.
-    /// Draws and step are done over records as well.
+    /// Draws and step are done over records as well, and the draws of some cases are explained.
     pub fn of(cases: &mut Cases, seed: u64, index: u64) -> Vec<Work> {
         let case = cases.case(index);
         let (steps, references) = cases::step(seed, index);
         let row = vec![0x5a; (index % (ENTRIES_LEN as u64 + 41)) as usize];
         let on_records = RecordCase::of(cases, seed, index, &case).into_iter().map(Work::RecordDraws);
         let stepped = Work::RecordStep(records::backgrounds(seed, index, steps, &references));
+        let explained = reasons::of(&case, index).map(Work::Reasons);
         let on_bytes = [Work::Draws(case), Work::Step { steps, references }, Work::Reset(row)];
-        on_bytes.into_iter().chain(on_records).chain([stepped]).collect()
+        on_bytes.into_iter().chain(on_records).chain([stepped]).chain(explained).collect()
     }
 
     /// The draws of the work, if it has any.
     pub fn draws(&mut self) -> Option<&mut Vec<Draw>> {
         match self {
-            Work::Draws(case) | Work::RecordDraws(RecordCase { case, .. }) => Some(&mut case.draws),
+            Work::Draws(case) | Work::RecordDraws(RecordCase { case, .. }) | Work::Reasons(case) => {
+                Some(&mut case.draws)
+            }
             _ => None,
         }
     }
@@ -178,6 +199,7 @@ impl Work {
                 let answer = side.step_records(&mut backgrounds);
                 vec![Given { backgrounds: backgrounds.to_vec(), ..Given::new(answer) }]
             }
+            Work::Reasons(case) => run_reasons(case, side),
         }
     }
 
@@ -189,6 +211,7 @@ impl Work {
             Work::Reset(_) => "reset",
             Work::RecordDraws(_) => "draw on records",
             Work::RecordStep(_) => "step on records",
+            Work::Reasons(_) => "reasons",
         }
     }
 }
@@ -200,6 +223,18 @@ fn run_draws(case: &Case, side: &mut dyn Side) -> Vec<Given> {
         Given { entries: entries.clone(), output: output.clone(), ..Given::new(answer) }
     };
     case.draws.iter().map(draw).collect()
+}
+
+/// Each draw is explained and then done, so that the next is explained on the row that it leaves.
+fn run_reasons(case: &Case, side: &mut dyn Side) -> Vec<Given> {
+    let (mut entries, mut output) = (case.entries.clone(), vec![0; OUTPUT_LEN]);
+    let explain = |draw| {
+        let (answer, reasons) = side.explain(draw, &entries);
+        let lent = entries.clone();
+        side.draw(draw, &mut entries, &mut output);
+        Given { entries: lent, reasons, ..Given::new(answer) }
+    };
+    case.draws.iter().map(explain).collect()
 }
 
 /// The first call at which the two part, and where, in words; the library's value first.
@@ -229,6 +264,7 @@ pub fn difference(library: &[Given], oracle: &[Given]) -> Option<(usize, String)
         first(&library.backgrounds, &oracle.backgrounds)
             .map(|(at, ours, theirs)| format!("background {} {ours:?} and {theirs:?}", at + 2)),
     );
+    parts.extend(reasons::difference(&library.reasons, &oracle.reasons));
     Some((at, parts.join(", ")))
 }
 

@@ -30,4 +30,9 @@ impl Loaded {
         self.vram = matches!(answer, Answer::Number(_)).then(|| draw.vram.clone());
         answer
     }
+
+    /// The same as `Oracle::background`.
+    pub fn background(&self, number: usize) -> Vec<u16> {
+        self.oracle.background(number)
+    }
 }
