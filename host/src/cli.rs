@@ -4,10 +4,11 @@ use std::path::PathBuf;
 
 use anyhow::Result;
 use ashlarkin_oracle::cases::fresh_seed;
-use clap::{Args, Parser, Subcommand, value_parser};
+use clap::{ArgGroup, Args, Parser, Subcommand, value_parser};
 
 use crate::compare::{self, Flip, Plan, Readings};
 use crate::exit::Exit;
+use crate::explain::{self, Asked, Place};
 use crate::frame::{self, Reading, Style};
 use crate::{batch, bench};
 
@@ -16,6 +17,7 @@ Examples:
   ashlarkin frame samples/scene/capture.ss0 -o frame.png
   ashlarkin frame samples/scene/capture.state.png -o frame.png --reading H --scale 4
   ashlarkin batch caps -o frames
+  ashlarkin explain samples/scene/capture.ss0 --at 120,80
   ashlarkin compare --cases 100000
   ashlarkin bench
 
@@ -36,6 +38,15 @@ Examples:
   ashlarkin batch caps -o frames --jobs 4 --reading H --scale 2
 
 Exit status: 0 all drawn, 1 a capture refused or unreadable (the others are drawn) or none found, 2 bad usage.";
+
+const EXPLAIN_EXAMPLES: &str = "\
+Examples:
+  ashlarkin explain game.ss0 --at 120,80          a paragraph, and a table of the facts
+  ashlarkin explain game.ss0 --at 120,80 --json   the same facts for a program
+  ashlarkin explain game.ss0 --line 80 > line.txt a JSON object for each of its 240 columns
+  ashlarkin explain game.ss0 --line 80 --reading H | grep '\"sprite blend\"'
+
+Exit status: 0 explained, 1 refused or unreadable, 2 bad usage.";
 
 const COMPARE_EXAMPLES: &str = "\
 Examples:
@@ -69,6 +80,9 @@ enum Command {
     /// Draw every capture below a folder, on all cores
     #[command(after_help = BATCH_EXAMPLES)]
     Batch(BatchArgs),
+    /// Say why a pixel of a capture's frame has its colour
+    #[command(after_help = EXPLAIN_EXAMPLES)]
+    Explain(ExplainArgs),
     /// Compare the proved library with the emulator's Rust on generated cases
     #[command(after_help = COMPARE_EXAMPLES)]
     Compare(CompareArgs),
@@ -151,11 +165,45 @@ struct BatchArgs {
 }
 
 #[derive(Args)]
+#[command(group = ArgGroup::new("place").required(true).args(["at", "line"]))]
+struct ExplainArgs {
+    /// A folder of vram.bin, palette.bin, oam.bin and registers.bin, or an mGBA save state
+    ///
+    /// What is explained is the picture that `ashlarkin frame` draws of it. Example: caps/07, or game.ss0
+    #[arg(value_name = "CAPTURE")]
+    capture: PathBuf,
+
+    /// The column, 0 to 239, and the line, 0 to 159, of the pixel
+    ///
+    /// Counted from the top left, at scale 1. Example: --at 120,80
+    #[arg(long, value_name = "X,Y", allow_hyphen_values = true, value_parser = Place::parse)]
+    at: Option<Place>,
+
+    /// Every pixel of a line, 0 to 159, as JSON
+    ///
+    /// One object a line of output, column 0 first, each as --at and --json give it. Example: --line 80
+    #[arg(long, value_name = "Y", allow_hyphen_values = true, value_parser = explain::parse_line)]
+    line: Option<u32>,
+
+    /// Whose rules to draw by
+    ///
+    /// Example: --reading H
+    #[arg(long, value_enum, ignore_case = true, default_value = "R")]
+    reading: Reading,
+
+    /// Print the facts as one JSON object
+    ///
+    /// With --line that is so anyway. Example: --json
+    #[arg(long)]
+    json: bool,
+}
+
+#[derive(Args)]
 struct CompareArgs {
     /// How many cases to compare
     ///
-    /// Each is one to six draws, a line-end step and a reset of a row; draws and step are done over records, too.
-    /// Example: --cases 1000000
+    /// Each is one to six draws, a line-end step and a reset of a row; draws and step are done over records, too. In
+    /// every 9th the library says why each column has its colour. Example: --cases 1000000
     #[arg(long, value_name = "N", default_value = "10000", value_parser = value_parser!(u64).range(1..))]
     cases: u64,
 
@@ -221,6 +269,7 @@ impl Cli {
         match self.command {
             Command::Frame(args) => frame::run(&args.capture, &args.output, args.style.style()),
             Command::Batch(args) => args.run(),
+            Command::Explain(args) => args.run(),
             Command::Compare(args) => args.run(),
             Command::Bench(args) => args.run(),
         }
@@ -231,6 +280,17 @@ impl BatchArgs {
     fn run(&self) -> Result<Exit> {
         let options = batch::Options { style: self.style.style(), jobs: self.jobs.map(usize::from), json: self.json };
         batch::run(&self.folder, &self.output, &options)
+    }
+}
+
+impl ExplainArgs {
+    fn run(&self) -> Result<Exit> {
+        let asked = match (self.at, self.line) {
+            (Some(place), _) if self.json => Asked::Json(place),
+            (Some(place), _) => Asked::Text(place),
+            (None, line) => Asked::Line(line.expect("clap asks for one of the two")),
+        };
+        explain::run(&self.capture, &asked, self.reading)
     }
 }
 

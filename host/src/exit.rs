@@ -22,7 +22,8 @@ impl From<Exit> for ExitCode {
     }
 }
 
-/// For what no capture can bring about: rows are reset, and 28-bit references can't leave the range in 160 lines.
+/// For what no capture can bring about: rows are reset, 28-bit references can't leave the range in 160 lines, and a
+/// column is judged with the command line.
 const REPORT: &str = "a fault of ashlarkin: report it with the capture";
 
 /// What to do about a refusal.
@@ -30,8 +31,13 @@ fn way_out(refusal: Refusal) -> &'static str {
     match refusal {
         Refusal::Length => "make the capture again, whole",
         Refusal::Mode => "make the capture in one of the modes 0 to 5",
-        Refusal::Brightness => "draw it with --reading H, which takes 16",
-        Refusal::Reading | Refusal::Line | Refusal::Reference | Refusal::Entry | Refusal::Unknown(_) => REPORT,
+        Refusal::Brightness => "give --reading H, which counts it as 16",
+        Refusal::Reading
+        | Refusal::Line
+        | Refusal::Reference
+        | Refusal::Entry
+        | Refusal::Column
+        | Refusal::Unknown(_) => REPORT,
     }
 }
 

@@ -6,6 +6,7 @@ use std::path::Path;
 use anyhow::{Context, Result, ensure};
 use ashlarkin::{ENTRIES_LEN, HEIGHT, Input, OUTPUT_LEN, READING_H, READING_R, Refusal, WIDTH};
 use clap::ValueEnum;
+use serde::Serialize;
 
 use crate::capture::{self, Capture};
 use crate::exit::{Exit, Refused};
@@ -24,7 +25,7 @@ const BG3Y: usize = 0x3c;
 const BLDY: usize = 0x54;
 
 /// Whose rules to draw by.
-#[derive(Clone, Copy, ValueEnum)]
+#[derive(Clone, Copy, Serialize, ValueEnum)]
 pub enum Reading {
     /// As the emulator's Rust draws
     #[value(name = "R")]
@@ -61,7 +62,7 @@ pub fn draw(capture: &Capture, reading: Reading) -> Result<Frame> {
     let mut pixels = Vec::with_capacity(WIDTH * HEIGHT as usize * 3);
     for input in lines(capture, reading) {
         let input = input?;
-        let output = draw_line(&input).map_err(|refusal| explain(refusal, &input))?;
+        let output = draw_line(&input).map_err(|refusal| refused(refusal, &input))?;
         // A word is 0x00RRGGBB, little-endian.
         pixels.extend(output.chunks_exact(4).flat_map(|word| [word[2], word[1], word[0]]));
     }
@@ -76,7 +77,7 @@ pub fn lines(capture: &Capture, reading: Reading) -> impl Iterator<Item = Result
         input.line = line;
         if line >= reading.first_stepped() {
             let stepped = ashlarkin::stepped(steps, input.references);
-            input.references = stepped.map_err(|refusal| explain(refusal, &input))?;
+            input.references = stepped.map_err(|refusal| refused(refusal, &input))?;
         }
         Ok(input)
     })
@@ -114,8 +115,8 @@ fn reference(registers: &[u8], offset: usize) -> i32 {
     (word << 4) as i32 >> 4
 }
 
-/// Says why a line wasn't drawn, with the values that the number is about.
-fn explain(refusal: Refusal, input: &Input) -> anyhow::Error {
+/// Says why a line isn't drawn or explained, with the values that the number is about.
+pub fn refused(refusal: Refusal, input: &Input) -> anyhow::Error {
     let value = match refusal {
         Refusal::Mode => format!("DISPCNT is 0x{:04x}", half(input.registers, DISPCNT)),
         Refusal::Brightness => format!("BLDY is 0x{:04x}", half(input.registers, BLDY)),

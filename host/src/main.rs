@@ -6,6 +6,7 @@ mod capture;
 mod cli;
 mod compare;
 mod exit;
+mod explain;
 mod find;
 mod frame;
 mod output;

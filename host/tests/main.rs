@@ -5,4 +5,5 @@ mod bench;
 mod c;
 mod common;
 mod compare;
+mod explain;
 mod frame;
