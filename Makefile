@@ -54,8 +54,8 @@ compare: host
 
 # The same cases in a release build, in a build that checks sums and assertions, and some with a fresh seed.
 oracle-tests: setup
-	@echo '== oracle: its source, its reach, its events, its differences, the order of effects'
-	@cargo test -q --release -p ashlarkin-oracle --test source --test reach --test events --test differences --test reorderings
+	@echo '== oracle: its source, its reach, its events, its differences, its reasons, the order of effects'
+	@cargo test -q --release -p ashlarkin-oracle --test source --test reach --test events --test differences --test reasons --test reorderings
 	@echo "== the list of crates/run_replay is the oracle's"
 	@cargo run -q --release -p ashlarkin-oracle --example replay_list | cmp - crates/run_replay/stdin
 	@echo '== oracle and document 01, typed twice: release'

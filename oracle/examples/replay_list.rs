@@ -1,14 +1,18 @@
 //! Makes the list of calls and answers that the program of crates/run_replay runs through the proved routines. The answers
-//! are the oracle's; the calls are the generator's under a fixed seed, so the list comes out the same each time.
+//! are the oracle's, and for reasons those of oracle/src/reasons.rs; the calls are the generator's under a fixed seed, so
+//! the list comes out the same each time.
 //!
 //!     cargo run -q --release -p ashlarkin-oracle --example replay_list > crates/run_replay/stdin
 //!
 //! The form of the list is described in crates/run_replay/src/main.rt.
 
+use std::collections::HashSet;
 use std::io::{Write, stdout};
+use std::ops::RangeInclusive;
 use std::sync::Arc;
 
-use ashlarkin_oracle::cases::{Alone, Case, Cases, Draw, Kind, reset_row, step};
+use ashlarkin_oracle::cases::{Alone, Case, Cases, Draw, Kind, Loaded, reset_row, step};
+use ashlarkin_oracle::reasons::{Reason, reasons};
 use ashlarkin_oracle::*;
 
 const SEED: u64 = 1;
@@ -25,6 +29,9 @@ const STEPS: u64 = 64;
 const IMAGES: usize = 5;
 const IMAGE_LEN: usize = VRAM_LEN + 64;
 
+/// Those of a line, and one that it doesn't have.
+const COLUMNS: RangeInclusive<u32> = 0..=240;
+
 /// Room for references of another length.
 const REFERENCES_ROOM: usize = 32;
 
@@ -36,6 +43,7 @@ enum Call {
     Draw,
     Step,
     Reset,
+    Explain,
 }
 
 /// What a record is for.
@@ -50,6 +58,7 @@ enum Group {
     Lengths,
     Steps,
     Resets,
+    Reasons,
 }
 
 /// The records so far, and the buffers as the last one leaves them.
@@ -60,6 +69,41 @@ struct List {
     memory: Vec<u8>,
     entries: Vec<u8>,
     output: Vec<u8>,
+    explained: Explained,
+}
+
+/// What the reasons so far have shown, and the oracle that they come from.
+#[derive(Default)]
+struct Explained {
+    oracle: Loaded,
+    shown: HashSet<Fact>,
+}
+
+/// A refusal's number and nothing else; or 0, and under a reading the value of a field.
+type Fact = (u32, u32, u32, u32);
+
+/// How many there are: refusals; and under each reading forced blank, regions, layers in front, layers behind, effects.
+const FACTS: usize = 8 + 2 * (1 + 5 + 6 + 6 + 5);
+
+fn facts(draw: &Draw, reason: &Reason) -> Vec<Fact> {
+    let Reason { number, blank, region, top, bottom, effect, .. } = *reason;
+    match (number, blank) {
+        (0, 0) => (1..).zip([region, top, bottom, effect]).map(|(field, it)| (0, draw.reading, field, it)).collect(),
+        (0, _) => vec![(0, draw.reading, 0, blank)],
+        _ => vec![(number, 0, 0, 0)],
+    }
+}
+
+impl Explained {
+    /// The column whose reason shows most that none has shown yet, if there is one.
+    fn next(&mut self, draw: &Draw, entries: &[u8]) -> Option<(u32, Reason)> {
+        let news = |reason: &Reason| facts(draw, reason).iter().filter(|fact| !self.shown.contains(fact)).count();
+        let (_, reasons) = reasons(&mut self.oracle, draw, entries, COLUMNS);
+        let (column, reason) = COLUMNS.zip(reasons).max_by_key(|(_, reason)| news(reason))?;
+        let is_new = news(&reason) > 0;
+        self.shown.extend(facts(draw, &reason));
+        is_new.then_some((column, reason))
+    }
 }
 
 /// Document 01's number; a panic of the Rust has no place in the list.
@@ -78,6 +122,11 @@ fn replace(buffer: &mut [u8], bytes: &[u8]) -> bool {
     changed
 }
 
+/// Palette, OAM and registers, one after another.
+fn memory(draw: &Draw) -> Vec<u8> {
+    [&draw.palette[..], &draw.oam, &draw.registers].concat()
+}
+
 impl List {
     fn new(images: Vec<Arc<[u8]>>) -> List {
         List {
@@ -87,6 +136,7 @@ impl List {
             memory: vec![0; 2 * (PALETTE_LEN + OAM_LEN + REGISTERS_LEN)],
             entries: vec![0; 2 * ENTRIES_LEN],
             output: vec![0; 2 * OUTPUT_LEN],
+            explained: Explained::default(),
         }
     }
 
@@ -101,24 +151,49 @@ impl List {
         }
     }
 
-    /// A draw on these entries, with so much of the output lent.
-    fn draw(&mut self, group: Group, draw: &Draw, entries: &[u8], output: usize) {
+    /// A head's words from the reading on, for a draw on these entries; the last is the call's own.
+    fn rest(&self, draw: &Draw, entries: &[u8], last: u32) -> [u32; 13] {
         let image = self.images.iter().position(|image| Arc::ptr_eq(image, &draw.vram)).expect("one of the images");
+        let [x2, y2, x3, y3] = draw.references.map(|reference| reference as u32);
+        let lent = [draw.vram_len, draw.palette.len(), draw.oam.len(), draw.registers.len(), entries.len()];
+        let [vram, palette, oam, registers, entries] = lent.map(|len| len as u32);
+        let (reading, line, start) = (draw.reading, draw.line, (image * IMAGE_LEN) as u32);
+        [reading, line, x2, y2, x3, y3, start, vram, palette, oam, registers, entries, last]
+    }
+
+    /// A draw on these entries, with so much of the output lent. Before it comes a column's reason that shows something new.
+    fn draw(&mut self, group: Group, draw: &Draw, entries: &[u8], output: usize) {
+        if let Some((column, reason)) = self.explained.next(draw, entries) {
+            self.explain(draw, entries, column, &reason);
+        }
         let (mut after, mut pixels) = (entries.to_vec(), self.output[..output].to_vec());
         let number = number(self.oracle.draw(&draw.input(), &mut after, &mut pixels));
-        let memory = [&draw.palette[..], &draw.oam, &draw.registers].concat();
+        let memory = memory(draw);
         let buffers: [(bool, &[u8]); 4] = [
             (replace(&mut self.memory, &memory), &memory),
             (replace(&mut self.entries, entries), entries),
             (replace(&mut self.entries, &after), &after),
             (replace(&mut self.output, &pixels), &pixels),
         ];
-        let [x2, y2, x3, y3] = draw.references.map(|reference| reference as u32);
-        let lent = [draw.vram_len, draw.palette.len(), draw.oam.len(), draw.registers.len(), entries.len(), output];
-        let [vram, palette, oam, registers, entries, output] = lent.map(|len| len as u32);
-        let (reading, line, start) = (draw.reading, draw.line, (image * IMAGE_LEN) as u32);
-        let rest = [reading, line, x2, y2, x3, y3, start, vram, palette, oam, registers, entries, output];
+        let rest = self.rest(draw, entries, output as u32);
         self.record(Call::Draw, group, number, rest, &buffers);
+    }
+
+    /// Why a column of a draw on these entries has its colour; what the reason has beside its number follows.
+    fn explain(&mut self, draw: &Draw, entries: &[u8], column: u32, reason: &Reason) {
+        let Reason { number, blank, region, top, bottom, effect, pixel, .. } = *reason;
+        let colors = [reason.top_color, reason.bottom_color].map(u32::from);
+        let weights = [reason.first_weight, reason.second_weight].map(u32::from);
+        let fields = [&[blank, region, top, bottom, effect], &colors[..], &weights, &[pixel]].concat();
+        let fields: Vec<u8> = fields.into_iter().flat_map(u32::to_le_bytes).collect();
+        let memory = memory(draw);
+        let buffers: [(bool, &[u8]); 3] = [
+            (replace(&mut self.memory, &memory), &memory),
+            (replace(&mut self.entries, entries), entries),
+            (true, &fields),
+        ];
+        let rest = self.rest(draw, entries, column);
+        self.record(Call::Explain, Group::Reasons, number, rest, &buffers);
     }
 
     /// A reset with so much of the row lent.
@@ -280,5 +355,6 @@ fn main() {
     for (steps, references) in (0..STEPS).map(|index| step(SEED, index)) {
         list.step(steps, references);
     }
+    assert_eq!(list.explained.shown.len(), FACTS);
     stdout().write_all(&list.bytes).expect("standard output");
 }

@@ -56,6 +56,7 @@ mod events;
 mod exports;
 mod input;
 mod judge;
+pub mod reasons;
 
 pub use bus::Bus;
 pub use draw::{Answer, Oracle};

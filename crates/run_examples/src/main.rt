@@ -1,9 +1,12 @@
-// The examples of document 01 without a P, and one for each of its errors that look right, by the exported routines.
-// Each line says what a draw returned and its pixels 0 and 1; the file stdout has what document 01 expects. The backdrop
-// is green, 0x00f800, and the output's bytes start as 0xaa, so a refused draw shows 0xaaaaaaaa.
+// The examples of document 01 without a P, one for each of its errors that look right, and some of why a column has its
+// colour (document 02), by the exported routines. Each line says what a draw returned and its pixels 0 and 1, or a reason's
+// fields; the file stdout has what the documents expect. The backdrop is green, 0x00f800, and the output's bytes start as
+// 0xaa, so a refused draw shows 0xaaaaaaaa.
 use ashlarkin::ashlarkin_draw;
+use ashlarkin::ashlarkin_explain;
 use ashlarkin::ashlarkin_reset;
 use ashlarkin::ashlarkin_step;
+use explain::Reason;
 
 const VIDEO_RAM_SIZE: usize = 0x20000;
 
@@ -256,6 +259,66 @@ fn negative_point() {
     print(b"point -1/256", draw_bitmap(-1, vram));
 }
 
+// Why a column of line 0 has its colour, with nothing there but the backdrop.
+fn explain_backdrop(registers: [u8; REGISTERS_SIZE], column: u32) -> Reason {
+    let vram = [0u8; VIDEO_RAM_SIZE];
+    let palette = colours();
+    let oam = [0u8; OAM_SIZE];
+    let entries = reset_row();
+    ashlarkin_explain(
+        R,
+        0,
+        0,
+        0,
+        0,
+        0,
+        &vram,
+        &palette,
+        &oam,
+        &registers,
+        &entries,
+        column,
+    )
+}
+
+fn print_field(name: &[u8], field: u32) {
+    io::write_all(1, name);
+    io::print_decimal(1, field as u64);
+}
+
+fn print_colour(colour: u16) {
+    io::write_all(1, b" 0x");
+    io::print_hex(1, colour as u64, 4);
+}
+
+fn print_reason(name: &[u8], reason: Reason) {
+    print_number(name, reason.number);
+    print_field(b", blank ", reason.blank);
+    print_field(b", region ", reason.region);
+    print_field(b", layers ", reason.top);
+    print_field(b" ", reason.bottom);
+    print_field(b", effect ", reason.effect);
+    io::write_all(1, b", colours");
+    print_colour(reason.top_color);
+    print_colour(reason.bottom_color);
+    print_field(b", weights ", reason.first_weight as u32);
+    print_field(b" ", reason.second_weight as u32);
+    io::write_all(1, b", pixel");
+    print_pixel(reason.pixel);
+    io::write_all(1, b"\n");
+}
+
+// Black by 0 is still black, though it changes nothing. Forced blank names no layer, and has no column 240 either.
+fn reasons() {
+    let empty = [0u8; REGISTERS_SIZE];
+    print_reason(b"why, empty screen", explain_backdrop(empty, 0));
+    let black = backdrop_registers(0, 0);
+    print_reason(b"why, black by 0", explain_backdrop(black, 0));
+    let blank = backdrop_registers(0x87, 0);
+    print_reason(b"why, forced blank", explain_backdrop(blank, 239));
+    print_reason(b"why, column 240", explain_backdrop(blank, 240));
+}
+
 fn main() {
     lines();
     modes();
@@ -265,4 +328,5 @@ fn main() {
     transparent_word();
     window_marks();
     negative_point();
+    reasons();
 }

@@ -1,5 +1,7 @@
 // The oracle's answer beside what a routine gave.
+ghost use mathlib.Core.List.{[]};
 ghost use Rattle.run_replay.specs.Same.{SameOnlyIf};
+use crate::list::REASON_SIZE;
 use crate::list::ROW_ROOM;
 
 // What came of a record: the same, or what differed, or a list that ends before it does.
@@ -8,6 +10,7 @@ pub(crate) enum Found {
     Number(u32),
     Entries(usize),
     Output(usize),
+    Field(usize),
     Cut,
 }
 
@@ -79,4 +82,32 @@ pub(crate) fn compare_rows(
         oracle_entries,
         oracle_output,
     )
+}
+
+// The same of the fields of a reason, a word each behind its number, which is field 0.
+pub(crate) fn compare_fields(
+    whole: bool,
+    number: u32,
+    fields: &[u8; REASON_SIZE],
+    oracle_number: u32,
+    oracle_fields: &[u8; REASON_SIZE],
+) -> Found
+    ensures { λ f.
+        ⌜ SameOnlyIf f
+        number (now (fields .entry)) []
+        «oracle_number» (now («oracle_fields» .entry)) [] ⌝ }
+{
+    let found = compare(
+        whole,
+        number,
+        fields,
+        b"",
+        oracle_number,
+        oracle_fields,
+        b"",
+    );
+    match found {
+        Found::Entries(place) => Found::Field(place / 4 + 1),
+        other => other,
+    }
 }

@@ -41,10 +41,14 @@ pub(crate) const ENTRIES: usize = 15;
 
 pub(crate) const OUTPUT: usize = 16;
 
+pub(crate) const COLUMN: usize = 16;
+
 // The calls; any other number is a reset.
 pub(crate) const DRAW: u32 = 0;
 
 pub(crate) const STEP: u32 = 1;
+
+pub(crate) const EXPLAIN: u32 = 3;
 
 // Room for buffers of twice their length, which a draw refuses; palette, OAM and registers share theirs.
 pub(crate) const MEMORY_ROOM: usize = 4268;
@@ -52,6 +56,9 @@ pub(crate) const MEMORY_ROOM: usize = 4268;
 pub(crate) const ROW_ROOM: usize = 1920;
 
 pub(crate) const REFERENCES_ROOM: usize = 32;
+
+// Ten words.
+pub(crate) const REASON_SIZE: usize = 40;
 
 // The bits that say which buffers follow, by what they are worth.
 pub(crate) const MEMORY_FOLLOWS: u32 = 1;

@@ -1,23 +1,27 @@
 // Runs a fixed list of the oracle's answers through the exported routines, and compares number, entries and output byte
-// for byte. The list is standard input; oracle/examples/replay_list.rs makes it. It has five video memories of 131,136
-// bytes, 64 more than a draw takes so that too much can be lent, and then records up to its end. A record is a head of 17
-// words and the buffers that follow it. A word is four bytes, the low one first. The words of a head:
-//   0         the call: 0 is a draw, 1 a step, 2 a reset
+// for byte, and every field of a reason. The list is standard input; oracle/examples/replay_list.rs makes it. It has five
+// video memories of 131,136 bytes, 64 more than a draw takes so that too much can be lent, and then records up to its end.
+// A record is a head of 17 words and the buffers that follow it. A word is four bytes, the low one first. The words of a
+// head:
+//   0         the call: 0 is a draw, 1 a step, 2 a reset, 3 the reason of a column
 //   1         its group, in the order in which tally.rt prints them
 //   2         the number that the oracle returned
 //   3         which buffers follow, a bit for each
 //   4, 5      reading and line
 //   6 to 9    the reference numbers; of a step pb2, pd2, pb3, pd3
 //   10        where in the list its video memory starts
-//   11 to 16  how much is lent of video memory, palette, OAM, registers, entries (of a step references) and output
+//   11 to 16  how much is lent of video memory, palette, OAM, registers, entries (of a step references) and output; for a
+//             reason 16 is the column
 // The buffers, each as long as it is lent: palette, OAM and registers, which follow together; entries before the call;
 // entries after it; output after it. One that doesn't follow is as the record before left it, and after the call as before
-// it. A step is followed by 32 bytes that hold its references before, and 32 after.
+// it. A step is followed by 32 bytes that hold its references before, and 32 after. A reason's ten fields behind its number
+// come last, a word each, in place of what a draw leaves.
 mod calls;
 mod compare;
 mod list;
 mod tally;
 
+use calls::replay_reason;
 use calls::replay_rows;
 use calls::replay_step;
 use compare::Found;
@@ -36,8 +40,11 @@ fn replay(
     entries: &mut [u8; list::ROW_ROOM],
     output: &mut [u8; list::ROW_ROOM],
 ) -> Found {
-    if word(head, list::CALL) == list::STEP {
+    let call = word(head, list::CALL);
+    if call == list::STEP {
         replay_step(head)
+    } else if call == list::EXPLAIN {
+        replay_reason(head, images, memory, entries)
     } else {
         replay_rows(head, images, memory, entries, output)
     }
@@ -72,6 +79,9 @@ fn is_same(k: u32, found: Found) -> bool {
         }
         Found::Output(place) => {
             print_place(b"call #: output differs from byte #\n", k, place as u64)
+        }
+        Found::Field(place) => {
+            print_place(b"call #: field # of the reason differs\n", k, place as u64)
         }
         Found::Cut => print_place(b"call #: the list ends in record #\n", k, k as u64),
     }

@@ -4,19 +4,19 @@ use crate::list::word;
 use crate::print_text;
 
 // Where each count starts.
-const NUMBERS: usize = 9;
+const NUMBERS: usize = 10;
 
-const MODES: usize = 17;
+const MODES: usize = 19;
 
-const BLANK: usize = 25;
+const BLANK: usize = 27;
 
-const WINDOWS: usize = 26;
+const WINDOWS: usize = 28;
 
-const EFFECTS: usize = 34;
+const EFFECTS: usize = 36;
 
-const CALLS: usize = 38;
+const CALLS: usize = 40;
 
-pub(crate) const COUNTS: usize = 39;
+pub(crate) const COUNTS: usize = 41;
 
 // Where the registers lie that stand behind a palette and an OAM.
 const DISPCNT: usize = 0x800;
@@ -73,7 +73,8 @@ lines of the sample: #
 buffers of another length: #
 steps: #
 resets: #
-numbers 0 to 7: # # # # # # # #
+reasons: #
+numbers 0 to 8: # # # # # # # # #
 lines of modes 0 to 7, of forced blank: # # # # # # # # #
 lines by the window switches 0 to 7: # # # # # # # #
 lines by the effects 0 to 3: # # # #
