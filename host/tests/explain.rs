@@ -106,9 +106,11 @@ fn json_has_every_field() {
     }
 }
 
+/// As README shows it.
 #[test]
 fn a_blend_is_told() {
     let text = explained(&sample(SAMPLES[0]), &["--at", "79,91", "--reading", "H"]);
+    assert!(include_str!("../../README.md").contains(&format!("```\n{text}```")), "{text}");
     let (paragraph, table) = text.split_once("\n\n").unwrap();
     let paragraph = paragraph.replace('\n', " ");
     for words in [
