@@ -6,7 +6,7 @@ use anyhow::Result;
 use ashlarkin_oracle::cases::fresh_seed;
 use clap::{ArgGroup, Args, Parser, Subcommand, value_parser};
 
-use crate::compare::{self, Flip, Plan, Readings};
+use crate::compare::{self, Flip, Plan, Planted, Readings, WrongRule};
 use crate::exit::Exit;
 use crate::explain::{self, Asked, Place};
 use crate::frame::{self, Reading, Style};
@@ -234,6 +234,10 @@ struct CompareArgs {
     /// Change the library's answer in one case, so that a test sees a difference found
     #[arg(long, value_name = "WHAT@CASE", hide = true, value_parser = Flip::parse)]
     flip_for_test: Option<Flip>,
+
+    /// Make the library wrong about the lowest bit of tile numbers, so that a test sees that told
+    #[arg(long, value_name = "RULE", hide = true, value_enum)]
+    wrong_for_test: Option<WrongRule>,
 }
 
 #[derive(Args)]
@@ -296,11 +300,12 @@ impl ExplainArgs {
 
 impl CompareArgs {
     fn run(&self) -> Result<Exit> {
+        let planted = Planted { flip: self.flip_for_test, rule: self.wrong_for_test };
         if let Some(path) = &self.replay {
-            return compare::replay(path, self.flip_for_test);
+            return compare::replay(path, planted);
         }
         let seed = self.seed.unwrap_or_else(fresh_seed);
-        let plan = Plan { cases: self.cases, seed, readings: self.reading, flip: self.flip_for_test };
+        let plan = Plan { cases: self.cases, seed, readings: self.reading, planted };
         compare::run(&plan, &self.keep)
     }
 }

@@ -139,6 +139,32 @@ fn a_difference_is_found_kept_and_replayed() {
     }
 }
 
+/// The lowest bit of tile numbers: a library that keeps or drops it wrongly is told from the oracle, by draws under the
+/// reading that it is wrong under and by no others.
+#[test]
+fn wrong_rules_for_tile_numbers_are_found() {
+    let folder = scratch("compare/wrong");
+    for (rule, reading, other) in [
+        ("kept-under-h", "H", "R"),
+        ("dropped-under-r", "R", "H"),
+        ("dropped-in-one-dimension", "H", "R"),
+        ("dropped-for-16-colours", "H", "R"),
+    ] {
+        let run = |reading, rest: &[&str]| {
+            let options = ["--cases", "300", "--seed", "1", "--wrong-for-test", rule, "--reading", reading];
+            compare(&folder, &[&options[..], rest].concat())
+        };
+        let found = run(reading, &["--keep", "kept.json"]);
+        assert!(found.status.code() == Some(1) && stderr(&found).contains("entry byte "), "{rule}: {}", stderr(&found));
+        counts(&run(other, &[]));
+
+        let again = compare(&folder, &["--replay", "kept.json", "--wrong-for-test", rule]);
+        assert_eq!(again.status.code(), Some(1), "{rule}");
+        let same = compare(&folder, &["--replay", "kept.json"]);
+        assert_eq!((same.status.code(), stderr(&same)), (Some(0), ""), "{rule}");
+    }
+}
+
 #[test]
 fn the_last_case_is_compared_and_none_past_it() {
     let folder = scratch("compare/last");
@@ -189,11 +215,12 @@ fn bad_usage_is_told_apart() {
         &["--replay", "kept.json", "--seed", "5"],
         &["--flip-for-test", "pixel"],
         &["--flip-for-test", "nothing@1"],
+        &["--wrong-for-test", "nothing"],
     ] {
         let run = compare(&folder, options);
         assert!(run.status.code() == Some(2) && run.stdout.is_empty(), "{options:?}");
     }
     assert!(names(&folder).is_empty());
     let help = compare(&folder, &["--help"]);
-    assert!(stdout(&help).contains("ashlarkin compare --replay") && !stdout(&help).contains("flip"));
+    assert!(stdout(&help).contains("ashlarkin compare --replay") && !stdout(&help).contains("for-test"));
 }

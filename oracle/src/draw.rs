@@ -103,13 +103,24 @@ impl Oracle {
         }
     }
 
-    /// Reading H, made of two of the Rust's draws with all weights capped at 16. The first is right in window 0's
-    /// columns. The second has window 0 off and window 1's edges in its place, so that the Rust, walking window 0's
-    /// columns for window 1, walks window 1's own: it is right everywhere else.
+    /// Reading H: the Rust on weights capped at 16, and on tile numbers made even where the notes ignore the lowest bit.
+    /// OAM is as it was loaded afterwards.
     fn draw_as_notes(&mut self, input: &Input, entries: &mut [u8], output: &mut [u8]) {
         self.gpu.bldalpha.eva = self.gpu.bldalpha.eva.min(16);
         self.gpu.bldalpha.evb = self.gpu.bldalpha.evb.min(16);
         self.gpu.bldy = self.gpu.bldy.min(16);
+        let loaded = self.gpu.oam.clone();
+        if register(input.registers, 0) & ONE_DIMENSIONAL == 0 {
+            make_tiles_even(&mut self.gpu.oam, has_256_colours);
+        }
+        self.draw_by_own_columns(input, entries, output);
+        self.gpu.oam = loaded;
+    }
+
+    /// Two of the Rust's draws. The first is right in window 0's columns. The second has window 0 off and window 1's edges
+    /// in its place, so that the Rust, walking window 0's columns for window 1, walks window 1's own: it is right
+    /// everywhere else.
+    fn draw_by_own_columns(&mut self, input: &Input, entries: &mut [u8], output: &mut [u8]) {
         let before = entries.to_vec();
         self.draw_as_rust(input.line, entries, output);
         if !self.gpu.dispcnt.enable_window1 || self.gpu.dispcnt.force_blank {
@@ -157,6 +168,19 @@ impl Oracle {
         gpu.bldalpha.write(word(0x52));
         gpu.bldy = word(0x54) & 0x1f;
     }
+}
+
+/// DISPCNT: sprite tiles are mapped in one dimension.
+pub const ONE_DIMENSIONAL: u16 = 0x40;
+
+/// Whether a sprite, by its bytes in OAM, has 256 colours.
+pub fn has_256_colours(sprite: &[u8]) -> bool {
+    sprite[1] & 0x20 != 0
+}
+
+/// Clears the lowest bit of the tile number of every sprite that is wanted.
+pub fn make_tiles_even(oam: &mut [u8], wanted: impl Fn(&[u8]) -> bool) {
+    oam.chunks_exact_mut(8).filter(|sprite| wanted(sprite)).for_each(|sprite| sprite[4] &= !1);
 }
 
 /// The Rust's record of four entry bytes.

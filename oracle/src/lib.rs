@@ -59,7 +59,7 @@ mod judge;
 pub mod reasons;
 
 pub use bus::Bus;
-pub use draw::{Answer, Oracle};
+pub use draw::{Answer, ONE_DIMENSIONAL, Oracle, has_256_colours, make_tiles_even};
 pub use events::{Clock, EventKind, Tick};
 pub use exports::{PANICKED, reset, step};
 pub use input::*;

@@ -37,6 +37,17 @@ fn d04_odd_tile_numbers_of_256_colours() {
     let mut p = Picture::new(0x1000);
     p.vram[0x10020] = 1;
     p.sprite(0, [0x2000, 0, 1]);
+    assert_eq!(p.pixels(0), [RED, BLACK]);
+    p.vram.swap(0x10020, 0x10000);
+    assert_eq!(p.pixels(0), [BLACK, RED]);
+    // In one-dimensional mapping, and with 16 colours, the bit counts in both.
+    p.set(0x00, 0x1040);
+    assert_eq!(p.pixels(0), [BLACK, BLACK]);
+    p.set(0x00, 0x1000).sprite(0, [0, 0, 1]);
+    assert_eq!(p.pixels(0), [BLACK, BLACK]);
+    p.vram.swap(0x10020, 0x10000);
+    assert_eq!(p.pixels(0), [RED, RED]);
+    p.set(0x00, 0x1040).sprite(0, [0x2000, 0, 1]);
     assert_eq!(p.pixels(0), [RED, RED]);
 }
 
@@ -95,7 +106,7 @@ fn d11_reads_past_a_regions_end() {
     put(&mut p.vram, 0, 0x100);
     p.vram[0x10000] = 1;
     assert_eq!(p.pixels(0), [RED, RED]);
-    let mut p = Picture::new(0x1000);
+    let mut p = Picture::new(0x1040);
     p.line = 4;
     p.vram[0x18000] = 1;
     p.sprite(0, [0x2000, 0, 1023]);

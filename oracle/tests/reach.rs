@@ -45,6 +45,8 @@ fn expected() -> Tally {
     tally.expect("sprite: shape, size", pairs(4, 4));
     tally.expect("sprite: type, mode", pairs(4, 4));
     tally.expect("sprite: format, mapping", pairs(2, 2));
+    let bits = (0..2).flat_map(|bit| pairs(2, 2).map(move |p| format!("{bit} {p}")));
+    tally.expect("sprite of 256 colours: lowest tile bit, mapping, reading", bits);
     tally.expect("sprite: left-right flip, up-down flip", pairs(2, 2));
     tally.expect("sprite: matrix", 0..32);
     tally.expect("sprite: priority", 0..4);
@@ -133,6 +135,8 @@ fn see_sprites(tally: &mut Tally, draw: &Draw) {
         tally.saw("sprite: shape, size", format!("{shape} {}", attr1 >> 14));
         tally.saw("sprite: type, mode", format!("{kind} {}", attr0 >> 10 & 3));
         tally.saw("sprite: format, mapping", format!("{} {}", attr0 >> 13 & 1, dispcnt >> 6 & 1));
+        let bits = format!("{} {} {}", attr2 & 1, dispcnt >> 6 & 1, draw.reading);
+        tally.saw_if(attr0 >> 13 & 1 == 1, "sprite of 256 colours: lowest tile bit, mapping, reading", bits);
         tally.saw("sprite: priority", attr2 >> 10 & 3);
         if kind == 0 {
             tally.saw("sprite: left-right flip, up-down flip", format!("{} {}", attr1 >> 12 & 1, attr1 >> 13 & 1));

@@ -77,7 +77,7 @@ module _ (color : ℕ) (e : Entry) {clear : Bool} (clear-is : clear ≡ isTransp
 -- ---- the sprites in turn
 
 module _ (reading : Reading) (o : Source) (line n column : ℕ) (e : Entry) {s : ObjAttrs} {test : Bool}
-    (s-is : s ≡ sprite (o .oam) n) (test-is : test ≡ drawn reading (o .start) s line) where
+    (s-is : s ≡ sprite (o .oam) n) (test-is : test ≡ drawn reading (o .mapping) (o .start) s line) where
   -- A sprite that was read and is drawn puts its pixel.
   pub spriteStep-drawn : {color : ℕ} {r : Entry} → test ≡ true
       → color ≡ typedColor (s .objtype) reading (o .mapping) (o .vram) (o .palette) (o .oam) s line column

@@ -1,6 +1,6 @@
 -- As code has it: what a column's object entry and the steps towards it are worked out from (01, "Sprites").
 -- No exported contract reaches this file. Assumes nothing.
-use Prim.Native.Nat.{ℕ, _<_}
+use Prim.Native.Nat.{ℕ, _%_, _<_}
 use mathlib.Core.Path.{_≡_}
 use mathlib.Core.List.{List}
 use lib.ListN.{length}
@@ -34,10 +34,11 @@ pub record NormalSpriteReady (vram palette : List ℕ) (s : ObjAttrs) (v : View)
   pub on-line : OnLine (v .reading) s (v .line)
   pub column< : v .column < 240
 
--- A sprite of OAM.
+-- A sprite of OAM; sprite tiles start at a whole tile.
 pub record StepReady (vram palette oam : List ℕ) (v : View) (obj : ℕ) : Type 0 where
   pub lent : Lent vram palette
   pub oam-is : length oam ≡ oamSize
+  pub whole : v .«tiles_start» % 64 ≡ 0
   pub line< : v .line < 160
   pub column< : v .column < 240
   pub obj< : obj < 128

@@ -146,7 +146,8 @@ fn sprite_step(e: Entry, vram: &[u8], palette: &[u8], oam: &[u8], view: View, ob
     let attrs = read_obj_attrs(oam, obj);
     let objmode = attrs.objmode;
     let reading = view.reading;
-    if attrs.is_drawn(reading, view.tiles_start, view.line) {
+    let mapping = view.mapping;
+    if attrs.is_drawn(reading, mapping, view.tiles_start, view.line) {
         let pixel_color = typed_color(vram, palette, oam, attrs, view);
         put_pixel(e, objmode, attrs.priority, pixel_color)
     } else {

@@ -69,13 +69,13 @@ module _ (reading : Reading) (o : Source) (line n : ℕ) where
       let s = sprite (o .oam) n in typedColor (s .objtype) reading (o .mapping) (o .vram) (o .palette) (o .oam) s line
 
   -- A sprite that is not drawn changes nothing.
-  pub spriteStep-none : drawn reading (o .start) (sprite (o .oam) n) line ≡ false
+  pub spriteStep-none : drawn reading (o .mapping) (o .start) (sprite (o .oam) n) line ≡ false
       → (column : ℕ) (e : Entry) → spriteStep reading o line n column e ≡ e
   unfolding spriteStep spriteColor
   spriteStep-none out column e = rw out (putPixel-transparent _ _ e)
 
   -- One that is drawn puts its colours.
-  mapRow-drawn : (l : List ℕ) {m : List ℕ} → drawn reading (o .start) (sprite (o .oam) n) line ≡ true
+  mapRow-drawn : (l : List ℕ) {m : List ℕ} → drawn reading (o .mapping) (o .start) (sprite (o .oam) n) line ≡ true
       → m ≡ putRow (sprite (o .oam) n) drawnColor l
       → m ≡ mapRow entryCells (spriteStep reading o line n) 240 l
   unfolding spriteStep spriteColor
@@ -92,7 +92,7 @@ module _ (reading : Reading) (o : Source) (line : ℕ) where
   entryUpTo-more n column e = ap (λ k. entryUpTo reading o line k column e) (sym (add-one n))
 
   -- Sprites that are not drawn change nothing.
-  entryUpTo-idle : (a b column : ℕ) (e : Entry) → a ≤ b → Each (NotDrawn reading (o .start) (o .oam) line) a b
+  entryUpTo-idle : (a b column : ℕ) (e : Entry) → a ≤ b → Each (NotDrawn reading (o .mapping) (o .start) (o .oam) line) a b
       → entryUpTo reading o line a column e ≡ entryUpTo reading o line b column e
   unfolding entryUpTo
   entryUpTo-idle a zero column e h none =
@@ -108,11 +108,11 @@ module _ (reading : Reading) (o : Source) (line : ℕ) where
   -- What the sprites before number n made of each column; sprite n, if there is one, is drawn.
   pub record SpritesUpTo (l₀ : List ℕ) (n : ℕ) (l : List ℕ) : Type 0 where
     pub composed : Composed entryCells (entryUpTo reading o line) 240 128 l₀ n l
-    pub next : n < 128 → drawn reading (o .start) (sprite (o .oam) n) line ≡ true
+    pub next : n < 128 → drawn reading (o .mapping) (o .start) (sprite (o .oam) n) line ≡ true
 
   -- The row after sprites that are not drawn is the row before them.
   sprites-skip : {a b : ℕ} {l₀ l : List ℕ} → Composed entryCells (entryUpTo reading o line) 240 128 l₀ a l
-      → NextDrawn reading (o .start) (o .oam) line a b
+      → NextDrawn reading (o .mapping) (o .start) (o .oam) line a b
       → SpritesUpTo l₀ b l
   sprites-skip {a} {b} {l₀} p next =
       record {
@@ -130,7 +130,7 @@ module _ (reading : Reading) (o : Source) (line : ℕ) where
 
   -- Where the pass begins: the first sprites are passed by up to a.
   pub sprites-first : {a : ℕ} {l : List ℕ} → length l ≡ 960 → AllBytes l
-      → NextDrawn reading (o .start) (o .oam) line 0 a
+      → NextDrawn reading (o .mapping) (o .start) (o .oam) line 0 a
       → SpritesUpTo l a l
   sprites-first {l = l} size bytes next =
       sprites-skip (composed-none entryCells size (λ k k<. exact-entryCells l bytes k) entryUpTo-none) next
@@ -138,7 +138,7 @@ module _ (reading : Reading) (o : Source) (line : ℕ) where
   -- A turn: sprite a is put, and those after it are passed by up to b.
   pub sprites-next : {a b : ℕ} {l₀ l m : List ℕ} → SpritesUpTo l₀ a l → (a< : a < 128)
       → m ≡ putRow (sprite (o .oam) a) (drawnColor reading o line a) l
-      → NextDrawn reading (o .start) (o .oam) line (a + 1) b
+      → NextDrawn reading (o .mapping) (o .start) (o .oam) line (a + 1) b
       → SpritesUpTo l₀ b m
   sprites-next {a} p a< put-is next =
       sprites-skip

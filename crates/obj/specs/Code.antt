@@ -10,6 +10,7 @@ use Rattle.rgb15.specs.declared.Rgb15.{Rgb15}
 use Rattle.rows.specs.Below.{between}
 use Rattle.rows.specs.Cells.{cellAt, putCell, only, mapRow}
 use Rattle.memory.specs.Sizes.{videoRamSize, paletteRamSize, oamSize, registersSize}
+use Rattle.regs.specs.declared.ObjMapping.{ObjMapping}
 use Rattle.regs.specs.declared.reading.Reading.{Reading}
 use Rattle.obj_sprites.specs.Attrs.{sprite, Decoded}
 use Rattle.obj_sprites.specs.Place.{onLine}
@@ -75,9 +76,10 @@ pub record ObjsReady (entries vram palette oam registers : List ℕ) (line : ℕ
   pub registers-is : length registers ≡ registersSize
   pub line< : line < 160
 
--- Where the sprites of a line are looked for.
-pub record NextReady (oam : List ℕ) (line from : ℕ) : Type 0 where
+-- Where the sprites of a line are looked for; sprite tiles start at a whole tile.
+pub record NextReady (oam : List ℕ) (start line from : ℕ) : Type 0 where
   pub oam-is : length oam ≡ oamSize
+  pub whole : start % 64 ≡ 0
   pub line< : line < 160
   pub from≤ : from ≤ 128
 
@@ -129,10 +131,10 @@ abbrev pub PassedOver : List ℕ → ObjAttrs → ℕ → Type 0
 PassedOver entries s k = passedOver (s .objmode) (s .priority) (cellAt entryCells entries k) ≡ true
 
 -- Sprite n is not drawn on a line.
-abbrev pub NotDrawn : Reading → ℕ → List ℕ → ℕ → ℕ → Type 0
-NotDrawn reading start oam line n = drawn reading start (sprite oam n) line ≡ false
+abbrev pub NotDrawn : Reading → ObjMapping → ℕ → List ℕ → ℕ → ℕ → Type 0
+NotDrawn reading mapping start oam line n = drawn reading mapping start (sprite oam n) line ≡ false
 
 -- Sprite r is the first from a on that is drawn on a line; it is 128 if none is.
-pub record NextDrawn (reading : Reading) (start : ℕ) (oam : List ℕ) (line a r : ℕ) : Type 0 where
-  pub walked : Walked (NotDrawn reading start oam line) a 128 r
-  pub next : r < 128 → drawn reading start (sprite oam r) line ≡ true
+pub record NextDrawn (reading : Reading) (mapping : ObjMapping) (start : ℕ) (oam : List ℕ) (line a r : ℕ) : Type 0 where
+  pub walked : Walked (NotDrawn reading mapping start oam line) a 128 r
+  pub next : r < 128 → drawn reading mapping start (sprite oam r) line ≡ true

@@ -328,13 +328,20 @@ fn render_obj(
 }
 
 // The first sprite from `from` on that is drawn on a line, or 128.
-fn next_obj(oam: &[u8], reading: Reading, tiles_start: usize, line: usize, from: usize) -> usize
-    requires { ⌜ NextReady (now oam) line from ⌝ }
-    ensures { λ r. ⌜ NextDrawn reading «tiles_start» (now (oam .entry)) line from r ⌝ }
+fn next_obj(
+    oam: &[u8],
+    reading: Reading,
+    mapping: ObjMapping,
+    tiles_start: usize,
+    line: usize,
+    from: usize,
+) -> usize
+    requires { ⌜ NextReady (now oam) «tiles_start» line from ⌝ }
+    ensures { λ r. ⌜ NextDrawn reading mapping «tiles_start» (now (oam .entry)) line from r ⌝ }
 {
     let mut obj = from;
     while obj < OBJ_COUNT {
-        if read_obj_attrs(oam, obj).is_drawn(reading, tiles_start, line) {
+        if read_obj_attrs(oam, obj).is_drawn(reading, mapping, tiles_start, line) {
             return obj;
         }
         obj += 1;
@@ -368,9 +375,9 @@ pub fn render_objs(
     let dispcnt = read_dispcnt(registers);
     let mapping = dispcnt.obj_mapping();
     let tiles_start = obj_tiles_start(dispcnt.mode);
-    let mut obj = next_obj(oam, reading, tiles_start, line, 0);
+    let mut obj = next_obj(oam, reading, mapping, tiles_start, line, 0);
     while obj < OBJ_COUNT {
         render_obj(entries, vram, palette, oam, reading, mapping, line, obj);
-        obj = next_obj(oam, reading, tiles_start, line, obj + 1);
+        obj = next_obj(oam, reading, mapping, tiles_start, line, obj + 1);
     }
 }

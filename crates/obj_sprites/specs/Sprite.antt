@@ -74,9 +74,9 @@ isWindow ObjMode.Forbidden = false
 
 -- A sprite is drawn on a line if its type isn't hidden, its mode isn't 3, the line is in its box, and its tiles start
 -- no earlier than sprite tiles do.
-unfoldable pub drawn : Reading → ℕ → ObjAttrs → ℕ → Bool
-drawn reading start s line =
-    isShown (s .objtype) && isPermitted (s .objmode) && onLine reading s line && leb start (tileBase reading s)
+unfoldable pub drawn : Reading → ObjMapping → ℕ → ObjAttrs → ℕ → Bool
+drawn reading mapping start s line =
+    isShown (s .objtype) && isPermitted (s .objmode) && onLine reading s line && leb start (tileBase reading mapping s)
 
 -- The colour at a column, by the sprite's type.
 unfoldable pub typedColor : ObjType → Reading → ObjMapping → List ℕ → List ℕ → List ℕ → ObjAttrs → ℕ → ℕ → ℕ
@@ -92,6 +92,6 @@ typedColor ObjType.AffineDoubleSize reading mapping vram palette oam s line colu
 unfoldable pub spriteColor : Reading → Source → ℕ → ℕ → ℕ → ℕ
 spriteColor reading o line n column =
     let s = sprite (o .oam) n in
-    cond (drawn reading (o .start) s line)
+    cond (drawn reading (o .mapping) (o .start) s line)
     (typedColor (s .objtype) reading (o .mapping) (o .vram) (o .palette) (o .oam) s line column)
     transparent

@@ -1,8 +1,8 @@
-// A sprite's attributes, decoded (render/obj.rs: `ObjAttrs`, its enums and its bit fields). R and H agree wherever a
-// reading is passed on.
+// A sprite's attributes, decoded (render/obj.rs: `ObjAttrs`, its enums and its bit fields). R and H part at the tile number
+// alone, and agree wherever else a reading is passed on.
 ghost use mathlib.Core.Path.{_≡_};
 ghost use mathlib.Core.Bool.{true};
-ghost use Prim.Native.Nat.{_+_, _^_, _≤_, _<_};
+ghost use Prim.Native.Nat.{_+_, _%_, _^_, _≤_, _<_};
 ghost use lib.IntN.{pos, subℕ};
 ghost use Rattle.signed.specs.Signed.{within};
 ghost use Rattle.memory.specs.Sizes.{videoRamSize};
@@ -10,7 +10,7 @@ ghost use Rattle.regs.specs.Background.{tileFormat};
 ghost use Rattle.regs.specs.declared.reading.Reading.{Reading};
 ghost use Rattle.obj_sprites.specs.Attrs.{objMode, objType, objAttrs, Decoded};
 ghost use Rattle.obj_sprites.specs.Place.{boxed, boxWidth, boxHeight, left, top, below, onLine};
-ghost use Rattle.obj_sprites.specs.Tiles.{tileBase, tileRow, tileAt};
+ghost use Rattle.obj_sprites.specs.Tiles.{ignoresLowestBit, tileNumber, tileBase, tileRow, tileAt};
 ghost use Rattle.obj_sprites.specs.Sprite.{isShown, isPermitted, drawn};
 ghost use Rattle.obj_sprites.specs.Code.{SizeOf};
 use memory::PixelFormat;
@@ -243,12 +243,43 @@ impl ObjAttrs {
         line + Y_BIAS - self.top(reading)
     }
 
-    // Where the sprite's tiles start.
-    pub(crate) fn tile_base(self, reading: Reading) -> usize
-        requires { ⌜ Decoded self ⌝ }
-        ensures { λ r. ⌜ (r ≡ tileBase reading self) × (r ≤ 98272) ⌝ }
+    // Whether the lowest bit of the tile number is ignored.
+    fn ignores_lowest_bit(self, reading: Reading, mapping: ObjMapping) -> bool
+        ensures { λ r. ⌜ r ≡ ignoresLowestBit reading mapping (self .format) ⌝ }
     {
-        OVRAM + TILE_SIZE * self.tile
+        match mapping {
+            ObjMapping::OneDimension => false,
+            ObjMapping::TwoDimension => {
+                let format = self.format;
+                match format {
+                    PixelFormat::BPP4 => false,
+                    PixelFormat::BPP8 => match reading {
+                        Reading::R => false,
+                        Reading::H => true,
+                    },
+                }
+            }
+        }
+    }
+
+    // The tile number as the reading counts it.
+    fn tile_number(self, reading: Reading, mapping: ObjMapping) -> usize
+        requires { ⌜ Decoded self ⌝ }
+        ensures { λ r. ⌜ (r ≡ tileNumber reading mapping self) × (r ≤ 1023) ⌝ }
+    {
+        if self.ignores_lowest_bit(reading, mapping) {
+            2 * (self.tile / 2)
+        } else {
+            self.tile
+        }
+    }
+
+    // Where the sprite's tiles start.
+    pub(crate) fn tile_base(self, reading: Reading, mapping: ObjMapping) -> usize
+        requires { ⌜ Decoded self ⌝ }
+        ensures { λ r. ⌜ (r ≡ tileBase reading mapping self) × (r ≤ 98272) ⌝ }
+    {
+        OVRAM + TILE_SIZE * self.tile_number(reading, mapping)
     }
 
     // How many tiles further the next row of tiles is.
@@ -276,13 +307,20 @@ impl ObjAttrs {
         let format = self.format;
         let tile_size = format.tile_size();
         let row = self.tile_array_width(mapping);
-        self.tile_base(reading) + tile_size * (x / 8 + row * (y / 8))
+        self.tile_base(reading, mapping) + tile_size * (x / 8 + row * (y / 8))
     }
 
-    // Whether the sprite is drawn on a line. Most are ruled out before their size is looked up.
-    pub fn is_drawn(self, reading: Reading, tiles_start: usize, line: usize) -> bool
-        requires { ⌜ Decoded self × (line < 160) ⌝ }
-        ensures { λ r. ⌜ r ≡ drawn reading «tiles_start» self line ⌝ }
+    // Whether the sprite is drawn on a line. Most are ruled out before their size is looked up. Sprite tiles start at an even
+    // number, so the lowest bit of the sprite's decides nothing here, whether the reading counts it or not.
+    pub fn is_drawn(
+        self,
+        reading: Reading,
+        mapping: ObjMapping,
+        tiles_start: usize,
+        line: usize,
+    ) -> bool
+        requires { ⌜ Decoded self × («tiles_start» % 64 ≡ 0) × (line < 160) ⌝ }
+        ensures { λ r. ⌜ r ≡ drawn reading mapping «tiles_start» self line ⌝ }
     {
         let objtype = self.objtype;
         let objmode = self.objmode;
@@ -295,7 +333,7 @@ impl ObjAttrs {
             return false;
         }
         let on_line = at < top + self.box_height();
-        let has_tiles = tiles_start <= self.tile_base(reading);
+        let has_tiles = tiles_start <= OVRAM + TILE_SIZE * self.tile;
         objmode.is_permitted() & on_line & has_tiles
     }
 }

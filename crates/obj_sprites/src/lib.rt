@@ -1,6 +1,6 @@
 // Sprites, from their attributes to the colour of a pixel (gpu/render/obj.rs). The attributes have a file of their own.
 ghost use mathlib.Core.Path.{_≡_};
-ghost use Prim.Native.Nat.{_<_};
+ghost use Prim.Native.Nat.{_%_, _<_};
 ghost use lib.ListN.{length};
 ghost use Rattle.memory.specs.Sizes.{videoRamSize, paletteRamSize, oamSize};
 ghost use Rattle.obj_sprites.specs.Attrs.{sprite, Decoded};
@@ -77,9 +77,9 @@ pub fn read_texel(
     )
 }
 
-// Where sprite tiles start.
+// Where sprite tiles start: at a whole tile of either format.
 pub fn obj_tiles_start(mode: u16) -> usize
-    ensures { λ r. ⌜ r ≡ tilesStart mode ⌝ }
+    ensures { λ r. ⌜ (r ≡ tilesStart mode) × (r % 64 ≡ 0) ⌝ }
 {
     if mode < 3 {
         OVRAM

@@ -18,7 +18,7 @@ use Rattle.obj_sprites.specs.Oam.{attributes}
 use Rattle.obj_sprites.specs.Size.{widths, heights, objWidth, objHeight}
 use Rattle.obj_sprites.specs.Attrs.{objMode, objType, objAttrs, sprite}
 use Rattle.obj_sprites.specs.Place.{xOf, yOf, boxed, left, top, onLine}
-use Rattle.obj_sprites.specs.Tiles.{tilesStart, tileBase, tileRow, tileAt, texel}
+use Rattle.obj_sprites.specs.Tiles.{tilesStart, ignoresLowestBit, tileNumber, tileBase, tileRow, tileAt, texel}
 use Rattle.tiles.specs.Flip.{flip}
 use Rattle.obj_sprites.specs.Color.{normalColor}
 use Rattle.obj_sprites.specs.Sprite.{source, isShown, isPermitted, drawn, typedColor, spriteColor}
@@ -76,13 +76,13 @@ module _ (p : ℕ) (p≤ : p ≤ 3) where
 
   module _ (reading : Reading) where
     -- It is drawn on line 0.
-    drawn-corner : drawn reading 0x10000 (corner p) 0 ≡ true
-    unfolding drawn isShown isPermitted onLine within boxed top yOf tileBase
+    drawn-corner : drawn reading TwoDimension 0x10000 (corner p) 0 ≡ true
+    unfolding drawn isShown isPermitted onLine within boxed top yOf tileBase tileNumber ignoresLowestBit
     drawn-corner = refl
 
     -- Its first pixel is red.
     texel-corner : texel reading TwoDimension (covered p .memory .vram) (covered p .memory .palette) (corner p) 0 0 ≡ 31
-    unfolding texel tileAt tileBase tileRow tilePixel paletteColor
+    unfolding texel tileAt tileBase tileNumber ignoresLowestBit tileRow tilePixel paletteColor
     texel-corner =
         rw (
           getD-tab {A = ℕ} _ videoRamSize 0x10000 0 (omega arith),

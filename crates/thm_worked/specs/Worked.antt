@@ -1,5 +1,5 @@
--- The examples that document 01 marks P (01, "Checked examples"), and effects whose order matters though it may not look so
--- (02, W-201), as one table under a single statement. Assumes nothing.
+-- The examples that document 01 marks P (01, "Checked examples"), effects whose order matters though it may not look so (02,
+-- W-201), and an odd tile number (02, W-203), as one table under a single statement. Assumes nothing.
 use Prim.Native.Nat.{ℕ}
 use mathlib.Core.Path.{_≡_, refl}
 use mathlib.Core.Bool.{true, false, cond}
@@ -11,17 +11,25 @@ use Rattle.rgb15.specs.Colour.{red, black, white, toRgb24, isTransparent, blend
 use Rattle.memory.specs.Memory.{half}
 use Rattle.memory.specs.Sizes.{registersSize}
 use Rattle.regs.specs.Registers.{BLDALPHA}
+use Rattle.regs.specs.declared.ObjMapping.the-variants.{TwoDimension}
 use Rattle.regs.specs.declared.reading.Reading.the-variants.{R, H}
 use Rattle.regs.specs.Reading.{counted}
 use Rattle.regs_window.specs.Windows.{farEdge, inColumns}
 use Rattle.bg_regular.specs.Regular.{regularX, regularY, mapBlock, mapOffset}
 use Rattle.bg.specs.Bitmap.{bitmapPixel}
+use Rattle.obj_sprites.specs.Attrs.{objAttrs}
 use Rattle.obj_sprites.specs.Place.{xOf, yOf}
+use Rattle.obj_sprites.specs.Tiles.{ignoresLowestBit, tileNumber, tileBase}
+use Rattle.obj_sprites.specs.declared.attrs.ObjAttrs.{ObjAttrs}
 use Rattle.sfx_effects.specs.Effects.{alpha, fade}
 
 -- Registers of zeros but for EVA, which is 31.
 abbrev eva31 : List ℕ
 eva31 = tab (λ at. cond (eqb at BLDALPHA) 31 0) registersSize
+
+-- A sprite of 256 colours with tile 3: the halfwords 0x2000, 0 and 3.
+abbrev tile3 : ObjAttrs
+tile3 = objAttrs (record { first = 0x2000; second = 0; third = 3 })
 
 -- Every example, in the documents' order.
 pub record Table : Type 0 where
@@ -67,9 +75,12 @@ pub record Table : Type 0 where
   -- Channels 2 and 3 under white, evy 5: 11 and 11; evy 6: 12 and 13.
   pub difference-before : (red (fade 5 2 white) ≡ 11) × (red (fade 5 3 white) ≡ 11)
   pub difference-after : (red (fade 6 2 white) ≡ 12) × (red (fade 6 3 white) ≡ 13)
+  -- Tile 3, 256 colours, two-dimensional mapping: R 0x10060, H 0x10040.
+  pub odd-tile-R : tileBase R TwoDimension tile3 ≡ 0x10060
+  pub odd-tile-H : tileBase H TwoDimension tile3 ≡ 0x10040
 
 pub table : Table
-unfolding yOf xOf blendChannel blendWith alpha fade counted farEdge tab half bitmapPixel
+unfolding yOf xOf objAttrs ignoresLowestBit tileNumber tileBase blendChannel blendWith alpha fade counted farEdge tab half bitmapPixel
 table = record {
   y-last = refl;
   y-first-above = refl;
@@ -99,4 +110,6 @@ table = record {
   white-then-blend = (refl, refl);
   difference-before = (refl, refl);
   difference-after = (refl, refl);
+  odd-tile-R = refl;
+  odd-tile-H = refl;
 }

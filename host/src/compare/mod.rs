@@ -6,6 +6,7 @@ mod reasons;
 mod records;
 mod tally;
 mod work;
+mod wrong;
 
 use std::path::Path;
 use std::sync::atomic::{AtomicU64, Ordering};
@@ -25,6 +26,8 @@ use kept::Kept;
 use tally::Tally;
 pub use work::input;
 use work::{Given, Library, Oracle, Work, answer, difference};
+use wrong::Wrong;
+pub use wrong::WrongRule;
 
 /// Which draws of the cases are compared.
 #[derive(Clone, Copy, PartialEq, ValueEnum)]
@@ -57,7 +60,14 @@ pub struct Plan {
     pub cases: u64,
     pub seed: u64,
     pub readings: Readings,
+    pub planted: Planted,
+}
+
+/// What is made wrong in the library, for tests.
+#[derive(Clone, Copy, Default)]
+pub struct Planted {
     pub flip: Option<Flip>,
+    pub rule: Option<WrongRule>,
 }
 
 /// Compares the cases of a plan. The first difference is kept in a file.
@@ -121,7 +131,7 @@ impl Sides {
                 if let Some(draws) = work.draws() {
                     draws.retain(|draw| plan.readings.take(draw.reading));
                 }
-                let (library, oracle) = both(&work, index, &mut self.oracle, plan.flip);
+                let (library, oracle) = both(&work, index, &mut self.oracle, plan.planted);
                 tally.count(&work, &oracle);
                 if let Some((at, parts)) = difference(&library, &oracle) {
                     let difference = place(plan.seed, index, &work, at, &parts);
@@ -133,9 +143,12 @@ impl Sides {
     }
 }
 
-fn both(work: &Work, index: u64, oracle: &mut Oracle, flip: Option<Flip>) -> (Vec<Given>, Vec<Given>) {
-    let mut library = work.run(&mut Library);
-    if let Some(flip) = flip {
+fn both(work: &Work, index: u64, oracle: &mut Oracle, planted: Planted) -> (Vec<Given>, Vec<Given>) {
+    let mut library = match planted.rule {
+        None => work.run(&mut Library),
+        Some(rule) => work.run(&mut Wrong(rule)),
+    };
+    if let Some(flip) = planted.flip {
         flip.change(work, index, &mut library);
     }
     (library, work.run(oracle))
@@ -147,9 +160,9 @@ fn place(seed: u64, index: u64, work: &Work, at: usize, parts: &str) -> String {
 }
 
 /// Runs a kept difference again and shows what each side gives.
-pub fn replay(path: &Path, flip: Option<Flip>) -> Result<Exit> {
+pub fn replay(path: &Path, planted: Planted) -> Result<Exit> {
     let Kept { seed, case, work, .. } = Kept::read(path)?;
-    let (library, oracle) = both(&work, case, &mut Oracle::default(), flip);
+    let (library, oracle) = both(&work, case, &mut Oracle::default(), planted);
     for (at, (library, oracle)) in library.iter().zip(&oracle).enumerate() {
         let (ours, theirs) = (answer(&library.answer), answer(&oracle.answer));
         let verdict = if library == oracle { "the same bytes" } else { "another answer or other bytes" };

@@ -1,5 +1,5 @@
-//! A second opinion of the draw: document 01 typed as it reads, a pixel at a time, from that document alone. A mutant
-//! is the same model with one deliberate error that looks right; it shows that the generated cases would catch it.
+//! A second opinion of the draw: document 01, with W-203 of document 02, typed as it reads, a pixel at a time, from those
+//! documents alone. A mutant is the same model with one deliberate error that looks right; it shows that the generated cases would catch it.
 
 // A test binary that includes this module may use only a part of it.
 #![allow(dead_code)]

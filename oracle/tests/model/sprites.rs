@@ -117,7 +117,7 @@ fn is_drawn(d: &Draw, sprite: &Sprite) -> bool {
     let prohibited = sprite.mode == Mode::Prohibited && !d.is(Mutant::ProhibitedModeDrawn);
     let on_line = sprite.y <= d.line && d.line < sprite.y + sprite.box_height;
     let tiles_start = if d.mode >= 3 && !d.is(Mutant::LowTilesShownInBitmapModes) { 0x14000 } else { 0x10000 };
-    !hidden && !prohibited && on_line && 0x10000 + 32 * sprite.tile >= tiles_start
+    !hidden && !prohibited && on_line && 0x10000 + 32 * tile_number(d, sprite) >= tiles_start
 }
 
 /// "Sprites": a non-window sprite is passed over where the entry's priority is less than or equal to its own.
@@ -157,13 +157,18 @@ fn pixel(d: &Draw, sprite: &Sprite, column: i64) -> Option<i64> {
     d.colour(palette, d.tile_pixel(tile, sprite.eight_bits, x % 8, y % 8), bank)
 }
 
-/// "Sprites": the tile number counts 32-byte steps from 0x10000, lowest bit included.
+/// "Sprites": the tile number counts 32-byte steps from 0x10000.
 fn first_tile(d: &Draw, sprite: &Sprite) -> i64 {
-    let even = d.is(Mutant::LowestTileBitIgnored8bpp)
-        || !bit(d.display, 6) && d.is(Mutant::LowestTileBitIgnoredTwoDimensional);
-    let tile = if sprite.eight_bits && even { sprite.tile / 2 * 2 } else { sprite.tile };
     let start = if d.mode >= 3 && d.is(Mutant::TilesCountedFrom14000) { 0x14000 } else { 0x10000 };
-    start + 32 * tile
+    start + 32 * tile_number(d, sprite)
+}
+
+/// Document 02, W-203: H ignores the lowest bit of a 256-colour sprite's in two-dimensional mapping.
+fn tile_number(d: &Draw, sprite: &Sprite) -> i64 {
+    let hardware = d.hardware && !d.is(Mutant::LowestTileBitKeptUnderH) || d.is(Mutant::LowestTileBitIgnoredUnderR);
+    let two_dimensional = !bit(d.display, 6) || d.is(Mutant::LowestTileBitIgnoredOneDimensional);
+    let eight_bits = sprite.eight_bits || d.is(Mutant::LowestTileBitIgnored16Colours);
+    if hardware && two_dimensional && eight_bits { sprite.tile / 2 * 2 } else { sprite.tile }
 }
 
 /// "Sprites": tile rows are width/8 tiles wide in one-dimensional mapping, else 16 (8bpp) or 32.

@@ -20,7 +20,7 @@ all-stepped c =
     let found = c .before .before in
     let read = found .before .before in
     stepped-all _ _ _ (c .before .loop .inv) (c .loop-test .left)
-    (source-is _ (read .read-dispcnt .ensures) (found .before .obj-mapping .ensures) (found .obj-tiles-start .ensures))
+    (source-is _ (read .read-dispcnt .ensures) (found .before .obj-mapping .ensures) (found .obj-tiles-start .ensures .0))
 
 pub column-entry-spec : {M : Type 1} → statement M
 column-entry-spec =

@@ -9,7 +9,7 @@ use Rattle.explain_obj.proofs.sprite_step.Tie as tie
 
 on-line : tie.Need-typed-color-requires
 on-line c κs =
-    let on = drawn-onLine _ _ _ _ (sym (c .before .is-drawn .ensures) ∙ c .if1 .taken) in search needs
+    let on = drawn-onLine _ _ _ _ _ (sym (c .before .is-drawn .ensures) ∙ c .if1 .taken) in search needs
 
 pub sprite-step-spec : {M : Type 1} → statement M
 sprite-step-spec =

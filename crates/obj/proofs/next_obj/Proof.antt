@@ -9,10 +9,11 @@ use Rattle.obj.proofs.next_obj.Statement.{statement}
 use Rattle.obj.proofs.next_obj.Tie as tie
 
 abbrev Inv-loop : tie.InvT-loop
-Inv-loop oam reading tiles-start line from obj₀ obj = Walked (NotDrawn reading tiles-start oam line) from 128 obj
+Inv-loop oam reading mapping tiles-start line from obj₀ obj =
+    Walked (NotDrawn reading mapping tiles-start oam line) from 128 obj
 
 abbrev μ-loop : tie.MeasureT-loop
-μ-loop oam reading tiles-start line from obj₀ obj = 128 - obj
+μ-loop oam reading mapping tiles-start line from obj₀ obj = 128 - obj
 
 pub next-obj-spec : {M : Type 1} → statement M
 next-obj-spec =

@@ -24,7 +24,7 @@ all-put c =
     let found = c .before .before .before in
     let read = found .before .before in
     sprites-all _ _ (c .before .loop .inv) (c .loop-test .left) (start read .pre .lengths .entries-is)
-    (source-is _ (read .read-dispcnt .ensures) (found .before .obj-mapping .ensures) (found .obj-tiles-start .ensures))
+    (source-is _ (read .read-dispcnt .ensures) (found .before .obj-mapping .ensures) (found .obj-tiles-start .ensures .0))
 
 pub render-objs-spec : {M : Type 1} → statement M
 render-objs-spec =

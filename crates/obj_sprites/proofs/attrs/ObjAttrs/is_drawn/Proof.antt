@@ -19,4 +19,5 @@ is-drawn-spec =
     (search needs)
     (search needs)
     (search needs)
+    (search needs)
     (λ c. search (needs, drawn-is)))
