@@ -1,0 +1,2 @@
+-- What ignoring the lowest bit of a tile number changes. Assumes nothing.
+pub mod TileNumbers
