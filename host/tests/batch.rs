@@ -136,9 +136,10 @@ fn two_hundred_with_ten_damaged() {
 #[test]
 fn the_samples_are_drawn() {
     let out = scratch("batch/samples").join("frames");
-    all_drawn(&sample(""), &out, 3, &["--reading", "H"]);
-    let states = ["scene/capture.ss0", "scene/capture.state.png", "scene-two-tone/capture.state.png"];
-    assert_eq!(places(&out), states.map(|state| format!("{state}.png")));
+    all_drawn(&sample(""), &out, 4, &["--reading", "H"]);
+    let captures =
+        ["scene/capture.ss0", "scene/capture.state.png", "scene-two-tone/capture.state.png", "title/capture"];
+    assert_eq!(places(&out), captures.map(|capture| format!("{capture}.png")));
 }
 
 #[test]

@@ -8,7 +8,7 @@ use serde_json::Value;
 
 use crate::common::*;
 
-const SAMPLES: [&str; 2] = ["scene/capture.ss0", "scene-two-tone/capture.state.png"];
+const SAMPLES: [&str; 3] = ["scene/capture.ss0", "scene-two-tone/capture.state.png", "title/capture"];
 
 const FIELDS: [&str; 11] =
     ["x", "y", "reading", "blank", "region", "top", "bottom", "effect", "first_weight", "second_weight", "pixel"];
@@ -46,7 +46,7 @@ fn check_line(capture: &Path, picture: &Picture, line: usize, reading: &str) {
 #[test]
 fn lines_are_those_of_the_frame() {
     let folder = scratch("explain/lines");
-    for (name, reading) in [(SAMPLES[0], "R"), (SAMPLES[0], "H"), (SAMPLES[1], "R"), (SAMPLES[1], "H")] {
+    for (name, reading) in SAMPLES.iter().flat_map(|name| ["R", "H"].map(|reading| (name, reading))) {
         let picture = drawn(&sample(name), &folder, &["--reading", reading]);
         for line in (0..160).step_by(9).chain([1, 2, 159]) {
             check_line(&sample(name), &picture, line, reading);

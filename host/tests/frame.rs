@@ -34,6 +34,18 @@ fn scene_is_mgbas_frame_but_for_its_blending() {
     compare(&drawn, &read_png(&sample("scene/mgba.png")), blended);
 }
 
+/// W-203: a title screen whose 256-colour sprites have odd tile numbers. R shows them off by half a tile, 32 of its 64 bytes.
+#[test]
+fn title_is_mgbas_frame_under_h_alone() {
+    let folder = scratch("frame/title");
+    let [h, r] = ["H", "R"].map(|reading| drawn(&sample("title/capture"), &folder, &["--reading", reading]));
+    compare(&h, &read_png(&sample("title/mgba.png")), |_| 0);
+    let differ = |line: usize| (0..240).filter(|x| h.pixels[240 * line + x] != r.pixels[240 * line + x]).count();
+    // The title stands in lines 18 to 81, the emblems in 76 to 139, and the 16-colour text, with odd numbers too, in 138 to 145.
+    assert!((0..18).chain(140..160).all(|line| differ(line) == 0));
+    assert_eq!((18..140).map(differ).sum::<usize>(), 9_426);
+}
+
 #[test]
 fn every_form_of_a_capture_draws_the_same() {
     let folder = scratch("frame/forms");
