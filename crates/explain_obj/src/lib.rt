@@ -50,7 +50,8 @@ fn affine_obj_color(vram: &[u8], palette: &[u8], oam: &[u8], attrs: ObjAttrs, vi
     if is_inside(at, left, attrs.box_width()) {
         let i = at - left;
         let turn = turn_line(oam, attrs, reading, view.line);
-        point_color(vram, palette, attrs, reading, mapping, turn, i)
+        let base = attrs.tile_base(reading, mapping);
+        point_color(vram, palette, attrs, base, reading, mapping, turn, i)
     } else {
         Rgb15::TRANSPARENT
     }
@@ -71,7 +72,17 @@ fn normal_color(vram: &[u8], palette: &[u8], attrs: ObjAttrs, view: View) -> Rgb
     if is_inside(at, left, attrs.width) {
         let sprite_x = flip(attrs.h_flip, attrs.width, at - left);
         let sprite_y = flip(attrs.v_flip, attrs.height, attrs.row(reading, view.line));
-        read_texel(vram, palette, attrs, reading, mapping, sprite_x, sprite_y)
+        let base = attrs.tile_base(reading, mapping);
+        read_texel(
+            vram,
+            palette,
+            attrs,
+            base,
+            reading,
+            mapping,
+            sprite_x,
+            sprite_y,
+        )
     } else {
         Rgb15::TRANSPARENT
     }

@@ -43,7 +43,8 @@ module _ (reading : Reading) (mapping : ObjMapping) (start : ℕ) (s : ObjAttrs)
       (and-both box (leb start (tileBase reading mapping s)) e .0) .1
 
   -- A hidden sprite.
-  pub drawn-hidden : {shown : Bool} → shown ≡ isShown (s .objtype) → not shown ≡ true → false ≡ drawn reading mapping start s line
+  pub drawn-hidden : {shown : Bool} → shown ≡ isShown (s .objtype) → not shown ≡ true
+      → false ≡ drawn reading mapping start s line
   unfolding drawn
   drawn-hidden {shown} shown-is hidden = rw (sym shown-is ∙ not-true shown hidden)
 

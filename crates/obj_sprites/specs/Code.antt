@@ -1,8 +1,13 @@
--- As code has it: a sprite's two sides, looked up at once (01, "Sprites").
+-- As code has it: a sprite's two sides, looked up at once, and where its tiles start, worked out once for many pixels (01,
+-- "Sprites").
 -- No exported contract reaches this file. Assumes nothing.
 use Prim.Native.Nat.{ℕ, _≤_}
 use mathlib.Core.Path.{_≡_}
+use Rattle.regs.specs.declared.ObjMapping.{ObjMapping}
+use Rattle.regs.specs.declared.reading.Reading.{Reading}
 use Rattle.obj_sprites.specs.Size.{objWidth, objHeight}
+use Rattle.obj_sprites.specs.Tiles.{tileBase}
+use Rattle.obj_sprites.specs.declared.attrs.ObjAttrs.{ObjAttrs}
 use Rattle.obj_sprites.specs.declared.attrs.ObjSize.{ObjSize}
 
 -- A width and a height are those of a size and a shape.
@@ -11,3 +16,8 @@ pub record SizeOf (size shape : ℕ) (r : ObjSize) : Type 0 where
   pub height-is : r .1 ≡ objHeight size shape
   pub width≤ : r .0 ≤ 64
   pub height≤ : r .1 ≤ 64
+
+-- A sprite's tiles start at base.
+pub record BaseOf (reading : Reading) (mapping : ObjMapping) (s : ObjAttrs) (base : ℕ) : Type 0 where
+  pub base-is : base ≡ tileBase reading mapping s
+  pub base≤ : base ≤ 98272

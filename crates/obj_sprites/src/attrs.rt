@@ -10,9 +10,9 @@ ghost use Rattle.regs.specs.Background.{tileFormat};
 ghost use Rattle.regs.specs.declared.reading.Reading.{Reading};
 ghost use Rattle.obj_sprites.specs.Attrs.{objMode, objType, objAttrs, Decoded};
 ghost use Rattle.obj_sprites.specs.Place.{boxed, boxWidth, boxHeight, left, top, below, onLine};
-ghost use Rattle.obj_sprites.specs.Tiles.{ignoresLowestBit, tileNumber, tileBase, tileRow, tileAt};
+ghost use Rattle.obj_sprites.specs.Tiles.{ignoresLowestBit, tileNumber, tileRow, tileAt};
 ghost use Rattle.obj_sprites.specs.Sprite.{isShown, isPermitted, drawn};
-ghost use Rattle.obj_sprites.specs.Code.{SizeOf};
+ghost use Rattle.obj_sprites.specs.Code.{SizeOf, BaseOf};
 use memory::PixelFormat;
 use memory::TILE_SIZE;
 use regs::ObjMapping;
@@ -275,9 +275,9 @@ impl ObjAttrs {
     }
 
     // Where the sprite's tiles start.
-    pub(crate) fn tile_base(self, reading: Reading, mapping: ObjMapping) -> usize
+    pub fn tile_base(self, reading: Reading, mapping: ObjMapping) -> usize
         requires { ⌜ Decoded self ⌝ }
-        ensures { λ r. ⌜ (r ≡ tileBase reading mapping self) × (r ≤ 98272) ⌝ }
+        ensures { λ r. ⌜ BaseOf reading mapping self r ⌝ }
     {
         OVRAM + TILE_SIZE * self.tile_number(reading, mapping)
     }
@@ -299,15 +299,22 @@ impl ObjAttrs {
         }
     }
 
-    // The address of the tile that holds pixel (x, y) of the sprite.
-    pub fn tile_at(self, reading: Reading, mapping: ObjMapping, x: usize, y: usize) -> usize
-        requires { ⌜ Decoded self × (x < self .width) × (y < self .height) ⌝ }
+    // The address of the tile that holds pixel (x, y) of the sprite, whose tiles start at base.
+    pub fn tile_at(
+        self,
+        base: usize,
+        reading: Reading,
+        mapping: ObjMapping,
+        x: usize,
+        y: usize,
+    ) -> usize
+        requires { ⌜ Decoded self × BaseOf reading mapping self base × (x < self .width) × (y < self .height) ⌝ }
         ensures { λ r. ⌜ (r ≡ tileAt reading mapping self x y) × (r + 63 < videoRamSize) ⌝ }
     {
         let format = self.format;
         let tile_size = format.tile_size();
         let row = self.tile_array_width(mapping);
-        self.tile_base(reading, mapping) + tile_size * (x / 8 + row * (y / 8))
+        base + tile_size * (x / 8 + row * (y / 8))
     }
 
     // Whether the sprite is drawn on a line. Most are ruled out before their size is looked up. Sprite tiles start at an even

@@ -5,6 +5,7 @@ ghost use lib.ListN.{length};
 ghost use Rattle.memory.specs.Sizes.{videoRamSize, paletteRamSize, oamSize};
 ghost use Rattle.obj_sprites.specs.Attrs.{sprite, Decoded};
 ghost use Rattle.obj_sprites.specs.Tiles.{tilesStart, texel};
+ghost use Rattle.obj_sprites.specs.Code.{BaseOf};
 
 mod attrs;
 
@@ -44,11 +45,12 @@ pub fn read_obj_attrs(oam: &[u8], obj: usize) -> ObjAttrs
     )
 }
 
-// The colour of pixel (x, y) of a sprite.
+// The colour of pixel (x, y) of a sprite, whose tiles start at base.
 pub fn read_texel(
     vram: &[u8],
     palette: &[u8],
     attrs: ObjAttrs,
+    base: usize,
     reading: Reading,
     mapping: ObjMapping,
     x: usize,
@@ -57,13 +59,14 @@ pub fn read_texel(
     requires { ⌜ (length (now vram) ≡ videoRamSize)
         × (length (now palette) ≡ paletteRamSize)
         × Decoded attrs
+        × BaseOf reading mapping attrs base
         × (x < attrs .width)
         × (y < attrs .height) ⌝ }
     ensures { λ c.
         ⌜ c .0 ≡ texel reading mapping (now (vram .entry)) (now (palette .entry)) attrs x y ⌝ }
 {
     let format = attrs.format;
-    let tile_addr = attrs.tile_at(reading, mapping, x, y);
+    let tile_addr = attrs.tile_at(base, reading, mapping, x, y);
     let bank = format.palette_bank(attrs.bank);
     tile_color(
         vram,

@@ -9,6 +9,7 @@ ghost use Rattle.memory.specs.Sizes.{oamSize};
 ghost use Rattle.rows.specs.Tab.{tab};
 ghost use Rattle.obj_sprites.specs.Oam.{matrix};
 ghost use Rattle.obj_sprites.specs.Place.{boxHeight, below};
+ghost use Rattle.obj_sprites.specs.Code.{BaseOf};
 ghost use Rattle.obj_texels.specs.Code.{MatrixOf, StartOf, TurnOf, pointAt, boxPointColor, affineTexel};
 ghost use Rattle.obj_texels.specs.Code.{StartRanges, TurnLine, PointRanges, Turned, TurnedRow};
 use memory::read_16;
@@ -115,17 +116,18 @@ fn point_at(start: usize, p: usize, i: usize, side: usize) -> usize
     pixel_of(start + p * i - MATRIX_BIAS * i, side)
 }
 
-// The colour of column i of an affine sprite's box: nothing is read where its point is outside.
+// The colour of column i of an affine sprite's box, whose tiles start at base: nothing is read where its point is outside.
 pub fn point_color(
     vram: &[u8],
     palette: &[u8],
     attrs: ObjAttrs,
+    base: usize,
     reading: Reading,
     mapping: ObjMapping,
     turn: Turn,
     i: usize,
 ) -> Rgb15
-    requires { ⌜ Turned (now vram) (now palette) attrs turn × (i ≤ 127) ⌝ }
+    requires { ⌜ Turned (now vram) (now palette) attrs turn × BaseOf reading mapping attrs base × (i ≤ 127) ⌝ }
     ensures { λ c. ⌜ c .0 ≡ boxPointColor reading mapping (now (vram .entry)) (now (palette .entry)) attrs turn i ⌝ }
 {
     let width = attrs.width;
@@ -135,7 +137,16 @@ pub fn point_color(
     if is_inside(x, OBJ_POINT_BIAS, width) & is_inside(y, OBJ_POINT_BIAS, height) {
         let sprite_x = x - OBJ_POINT_BIAS;
         let sprite_y = y - OBJ_POINT_BIAS;
-        read_texel(vram, palette, attrs, reading, mapping, sprite_x, sprite_y)
+        read_texel(
+            vram,
+            palette,
+            attrs,
+            base,
+            reading,
+            mapping,
+            sprite_x,
+            sprite_y,
+        )
     } else {
         Rgb15::TRANSPARENT
     }
@@ -156,10 +167,11 @@ pub fn affine_row(
     ensures { λ r. ⌜ r ≡ tab (λ i. rgb (affineTexel reading mapping (now (vram .entry)) (now (palette .entry)) attrs turn
         from to i)) 128 ⌝ }
 {
+    let base = attrs.tile_base(reading, mapping);
     let mut row = [Rgb15::TRANSPARENT; BOX_MAX];
     let mut i = from;
     while i < to {
-        row[i] = point_color(vram, palette, attrs, reading, mapping, turn, i);
+        row[i] = point_color(vram, palette, attrs, base, reading, mapping, turn, i);
         i += 1;
     }
     row

@@ -8,6 +8,7 @@ ghost use Rattle.memory.specs.Tiles.{tilePixel};
 ghost use Rattle.tiles.specs.Flip.{flip};
 ghost use Rattle.tiles.specs.Code.{ColorRow};
 ghost use Rattle.obj_sprites.specs.Tiles.{texel};
+ghost use Rattle.obj_sprites.specs.Code.{BaseOf};
 ghost use Rattle.obj_texels.specs.Code.{NormalRow, rowTexel};
 use memory::PixelFormat;
 use obj_sprites::BOX_MAX;
@@ -49,24 +50,25 @@ fn tile_row(
     flip_row(row, flipped)
 }
 
-// The eight colours of row y of a normal sprite's tile t, counted from the left as shown.
+// The eight colours of row y of a normal sprite's tile t, counted from the left as shown; its tiles start at base.
 fn shown_tile(
     vram: &[u8],
     palette: &[u8],
     attrs: ObjAttrs,
+    base: usize,
     reading: Reading,
     mapping: ObjMapping,
     y: usize,
     t: usize,
 ) -> [Rgb15; TILE_SIDE]
-    requires { ⌜ NormalRow (now vram) (now palette) attrs y × (t < attrs .width / 8) ⌝ }
+    requires { ⌜ NormalRow (now vram) (now palette) attrs y × BaseOf reading mapping attrs base × (t < attrs .width / 8) ⌝ }
     ensures { λ r. ⌜ r ≡ tab (λ k. rgb (texel reading mapping (now (vram .entry)) (now (palette .entry)) attrs
         (flip (attrs .«h_flip») (attrs .width) (8 * t + k)) y)) 8 ⌝ }
 {
     let format = attrs.format;
     let bank = format.palette_bank(attrs.bank);
     let tile = flip(attrs.h_flip, attrs.width / TILE_SIDE, t);
-    let tile_addr = attrs.tile_at(reading, mapping, TILE_SIDE * tile, y);
+    let tile_addr = attrs.tile_at(base, reading, mapping, TILE_SIDE * tile, y);
     tile_row(
         vram,
         palette,
@@ -92,10 +94,11 @@ pub fn texel_row(
     ensures { λ r. ⌜ r ≡ tab (λ x. rgb (rowTexel reading mapping (now (vram .entry)) (now (palette .entry)) attrs y x)) 128 ⌝ }
 {
     let tiles = attrs.width / TILE_SIDE;
+    let base = attrs.tile_base(reading, mapping);
     let mut row = [Rgb15::TRANSPARENT; BOX_MAX];
     let mut t: usize = 0;
     while t < tiles {
-        let eight = shown_tile(vram, palette, attrs, reading, mapping, y, t);
+        let eight = shown_tile(vram, palette, attrs, base, reading, mapping, y, t);
         let i = TILE_SIDE * t;
         row[i] = eight[0];
         row[i + 1] = eight[1];

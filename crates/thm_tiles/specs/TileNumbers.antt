@@ -42,7 +42,8 @@ pub record TileNumbers : Type 0 where
   pub same-drawn : (mapping : ObjMapping) (mode : ℕ) (s : ObjAttrs) (line : ℕ)
       → drawn H mapping (tilesStart mode) s line ≡ drawn R mapping (tilesStart mode) s line
   -- H makes of a row what R makes of it with such numbers made even.
-  pub made-even : (o : Source) (line : ℕ) (entries : List ℕ) → putSprites H o line entries ≡ putSprites R (evenSource o) line entries
+  pub made-even : (o : Source) (line : ℕ) (entries : List ℕ)
+      → putSprites H o line entries ≡ putSprites R (evenSource o) line entries
   -- Where every number is as H counts it, H and R make the same of a row.
   pub all-even : (o : Source)
       → ((n : ℕ) → n < objCount → tileNumber H (o .mapping) (sprite (o .oam) n) ≡ sprite (o .oam) n .tile)

@@ -27,11 +27,11 @@ from-left : tie.Need-sub-i
 from-left c = held c .0
 
 point-ready : tie.Need-point-color-requires
-point-ready c κs = let bounds = held (c .before) in search needs
+point-ready c κs = let bounds = held (c .before .before) in search needs
 
 inside : tie.Need-returns
 inside c =
-    let turned = c .before in
+    let turned = c .before .before in
     let test = turned .before in
     let left = placed (test .before) .left in
     let width = test .before .before .box-width in
@@ -57,6 +57,7 @@ affine-obj-color-spec =
     (search needs)
     from-left
     (λ c κs. search needs)
+    (search needs)
     point-ready
     inside
     outside)

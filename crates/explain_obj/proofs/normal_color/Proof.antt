@@ -35,7 +35,9 @@ in-height c κs =
     omega (arith, boxed-normal (begun .args .attrs .height) (begun .pre .type-is))
 
 inside : tie.Need-returns
-inside c = let bounds = held (c .before .before .before .before) in search (needs, normalColor-read)
+inside c =
+    let flipped = c .before .before .before in
+    let bounds = held (flipped .before .before) in search (needs, normalColor-read)
 
 outside : tie.Need-returns-2
 outside c =
@@ -56,6 +58,7 @@ normal-color-spec =
     in-width
     (λ c κs. search needs)
     in-height
+    (search needs)
     (search needs)
     inside
     outside)

@@ -4,6 +4,7 @@ use Prim.Native.Nat.{_-_}
 use native.Mathlib.Omega.{arith}
 use mathlib.Core.Path.{ap, _∙_}
 use lib.ListN.{length-replicate}
+use borrow.Author.Needs.{needs}
 use Rattle.rgb15.specs.Colour.{rgb, transparent}
 use Rattle.rows.proofs.Tabbed.{MappedPart, mapped-from, mapped-inside, mapped-to}
 use Rattle.obj_texels.specs.Code.{boxPointColor}
@@ -12,14 +13,14 @@ use Rattle.obj_texels.proofs.affine.affine_row.Statement.{statement}
 use Rattle.obj_texels.proofs.affine.affine_row.Tie as tie
 
 abbrev Inv-loop : tie.InvT-loop
-Inv-loop vram palette attrs reading mapping turn from to row₀ i₀ row i =
+Inv-loop vram palette attrs reading mapping turn from to base row₀ i₀ row i =
     MappedPart (λ i _. rgb (boxPointColor reading mapping vram palette attrs turn i)) 128 from to (rgb 0) row₀ i row
 
 abbrev μ-loop : tie.MeasureT-loop
-μ-loop vram palette attrs reading mapping turn from to row₀ i₀ row i = to - i
+μ-loop vram palette attrs reading mapping turn from to base row₀ i₀ row i = to - i
 
 abbrev start : tie.At-loop Inv-loop μ-loop → tie.Start Inv-loop μ-loop
-start loop = loop .before .before .before
+start loop = loop .before .before .before .before
 
 next-column : tie.Need-loop-again Inv-loop μ-loop
 next-column c =
@@ -40,8 +41,9 @@ affine-row-spec =
     (tie.spec
     Inv-loop
     μ-loop
+    (search needs)
     (λ c. mapped-from (length-replicate 128 (rgb transparent)) (omega arith))
-    (λ c κs. (start (c .before) .pre .turned, omega arith))
+    (λ c κs. (start (c .before) .pre .turned, c .before .before .tile-base .ensures, omega arith))
     (λ c. omega arith)
     (λ c. omega arith)
     (λ c. omega arith)

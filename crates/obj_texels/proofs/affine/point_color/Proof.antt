@@ -29,9 +29,10 @@ bounds c =
 
 texel-read : tie.Need-read-texel-requires
 texel-read c κs =
-    let pre = start (c .before) .pre .0 in
+    let pre = start (c .before) .pre in
+    let lent = pre .0 .lent in
     let inside = bounds c in
-    (pre .lent .vram-is, pre .lent .palette-is, pre .decoded, omega arith, omega arith)
+    (lent .vram-is, lent .palette-is, pre .0 .decoded, pre .1, omega arith, omega arith)
 
 inside : tie.Need-returns
 inside c =

@@ -4,6 +4,7 @@ use Prim.Native.Nat.{_-_, _≤_}
 use native.Mathlib.Omega.{arith}
 use mathlib.Core.Path.{sym, ap, _∙_}
 use lib.ListN.{length-replicate, getD-replicate}
+use borrow.Author.Needs.{needs}
 use Rattle.rgb15.specs.Colour.{rgb, transparent}
 use Rattle.rows.proofs.Tiles.{TilesSet, tilesSet-none, tilesSet-more, tilesSet-all}
 use Rattle.obj_texels.specs.Code.{rowTexel}
@@ -12,14 +13,14 @@ use Rattle.obj_texels.proofs.normal.texel_row.Statement.{statement}
 use Rattle.obj_texels.proofs.normal.texel_row.Tie as tie
 
 abbrev Inv-loop : tie.InvT-loop
-Inv-loop vram palette attrs reading mapping y tiles row₀ t₀ row t =
+Inv-loop vram palette attrs reading mapping y tiles base row₀ t₀ row t =
     (t ≤ tiles) × TilesSet (λ x. rgb (rowTexel reading mapping vram palette attrs y x)) 128 (rgb 0) row₀ t row
 
 abbrev μ-loop : tie.MeasureT-loop
-μ-loop vram palette attrs reading mapping y tiles row₀ t₀ row t = tiles - t
+μ-loop vram palette attrs reading mapping y tiles base row₀ t₀ row t = tiles - t
 
 abbrev start : tie.At-loop Inv-loop μ-loop → tie.Start Inv-loop μ-loop
-start loop = loop .before .before .before .before
+start loop = loop .before .before .before .before .before
 
 next-tile : tie.Need-loop-again Inv-loop μ-loop
 next-tile c =
@@ -57,8 +58,9 @@ texel-row-spec =
     (tie.spec
     Inv-loop
     μ-loop
+    (search needs)
     (λ c. (omega arith, tilesSet-none (length-replicate 128 (rgb transparent))))
-    (λ c κs. (start (c .before) .pre, c .loop-test .taken))
+    (λ c κs. (start (c .before) .pre, c .before .before .tile-base .ensures, c .loop-test .taken))
     (λ c. omega arith)
     (λ c. omega arith)
     (λ c. omega arith)

@@ -18,14 +18,14 @@ tiles-bound size row x y size≤ row≤ x< y< =
     let tiles : x / 8 + row * (y / 8) ≤ 231 = omega arith in
     (rows, mul-le-mul size≤ tiles)
 
-bounds : (c : tie.After-tile-base)
-    → let size = c .before .before .tile-size .result in
-    let row = c .before .tile-array-width .result in
-    let at = c .before .before .before .args in
+bounds : (c : tie.After-tile-array-width)
+    → let size = c .before .tile-size .result in
+    let row = c .tile-array-width .result in
+    let at = c .before .before .args in
     (row * (at .y / 8) ≤ 224) × (size * (at .x / 8 + row * (at .y / 8)) ≤ 14784)
 bounds c =
-    let size = c .before .before .tile-size in
-    let size≤ : size .result ≤ 64 = rw (size .ensures) (tileSize-bound (c .before .before .before .args .self .format)) in
+    let size = c .before .tile-size in
+    let size≤ : size .result ≤ 64 = rw (size .ensures) (tileSize-bound (c .before .before .args .self .format)) in
     tiles-bound _ _ _ _ size≤ (search needs) (search needs) (search needs)
 
 pub tile-at-spec : {M : Type 1} → statement M
@@ -33,7 +33,6 @@ unfolding tileAt
 tile-at-spec =
     tie.close
     (tie.spec
-    (search needs)
     (search needs)
     (search needs)
     (λ c. omega (arith, bounds c))

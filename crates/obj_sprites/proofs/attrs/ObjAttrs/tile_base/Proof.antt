@@ -7,4 +7,10 @@ use Rattle.obj_sprites.proofs.attrs.ObjAttrs.tile_base.Tie as tie
 
 pub tile-base-spec : {M : Type 1} → statement M
 unfolding tileBase
-tile-base-spec = tie.close (tie.spec (search needs) (search needs) (search needs) (λ c. search needs))
+tile-base-spec =
+    tie.close
+    (tie.spec
+    (search needs)
+    (search needs)
+    (search needs)
+    (λ c. record { base-is = search needs; base≤ = search needs }))

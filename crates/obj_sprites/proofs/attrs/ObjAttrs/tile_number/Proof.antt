@@ -13,5 +13,6 @@ tile-number-spec =
     (tie.spec
     (search needs)
     (search needs)
-    (λ c. let tested = c .before in rw (sym (tested .before .ignores-lowest-bit .ensures) ∙ tested .if1 .taken) (search needs))
+    (λ c. let tested = c .before in
+    rw (sym (tested .before .ignores-lowest-bit .ensures) ∙ tested .if1 .taken) (search needs))
     (λ c. rw (sym (c .before .ignores-lowest-bit .ensures) ∙ c .if1 .left) (search needs)))
