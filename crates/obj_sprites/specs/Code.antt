@@ -1,11 +1,12 @@
--- As code has it: a sprite's two sides, looked up at once, and where its tiles start, worked out once for many pixels (01,
--- "Sprites").
+-- As code has it: a sprite's two sides, looked up at once; where its tiles start, worked out once for many pixels; and what
+-- is asked (01, "Sprites").
 -- No exported contract reaches this file. Assumes nothing.
-use Prim.Native.Nat.{ℕ, _≤_}
+use Prim.Native.Nat.{ℕ, _%_, _≤_, _<_}
 use mathlib.Core.Path.{_≡_}
 use Rattle.regs.specs.declared.ObjMapping.{ObjMapping}
 use Rattle.regs.specs.declared.reading.Reading.{Reading}
 use Rattle.obj_sprites.specs.Size.{objWidth, objHeight}
+use Rattle.obj_sprites.specs.Attrs.{Decoded}
 use Rattle.obj_sprites.specs.Tiles.{tileBase}
 use Rattle.obj_sprites.specs.declared.attrs.ObjAttrs.{ObjAttrs}
 use Rattle.obj_sprites.specs.declared.attrs.ObjSize.{ObjSize}
@@ -21,3 +22,16 @@ pub record SizeOf (size shape : ℕ) (r : ObjSize) : Type 0 where
 pub record BaseOf (reading : Reading) (mapping : ObjMapping) (s : ObjAttrs) (base : ℕ) : Type 0 where
   pub base-is : base ≡ tileBase reading mapping s
   pub base≤ : base ≤ 98272
+
+-- A pixel (x, y) of a sprite whose tiles start at base.
+pub record TexelReady (reading : Reading) (mapping : ObjMapping) (s : ObjAttrs) (base x y : ℕ) : Type 0 where
+  pub decoded : Decoded s
+  pub base-of : BaseOf reading mapping s base
+  pub x< : x < s .width
+  pub y< : y < s .height
+
+-- A sprite on a line of the screen; sprite tiles start at a whole tile.
+pub record LineReady (s : ObjAttrs) (start line : ℕ) : Type 0 where
+  pub decoded : Decoded s
+  pub whole : start % 64 ≡ 0
+  pub line< : line < 160

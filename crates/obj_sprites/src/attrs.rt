@@ -2,7 +2,7 @@
 // alone, and agree wherever else a reading is passed on.
 ghost use mathlib.Core.Path.{_≡_};
 ghost use mathlib.Core.Bool.{true};
-ghost use Prim.Native.Nat.{_+_, _%_, _^_, _≤_, _<_};
+ghost use Prim.Native.Nat.{_+_, _^_, _≤_, _<_};
 ghost use lib.IntN.{pos, subℕ};
 ghost use Rattle.signed.specs.Signed.{within};
 ghost use Rattle.memory.specs.Sizes.{videoRamSize};
@@ -12,7 +12,7 @@ ghost use Rattle.obj_sprites.specs.Attrs.{objMode, objType, objAttrs, De
 ghost use Rattle.obj_sprites.specs.Place.{boxed, boxWidth, boxHeight, left, top, below, onLine};
 ghost use Rattle.obj_sprites.specs.Tiles.{ignoresLowestBit, tileNumber, tileRow, tileAt};
 ghost use Rattle.obj_sprites.specs.Sprite.{isShown, isPermitted, drawn};
-ghost use Rattle.obj_sprites.specs.Code.{SizeOf, BaseOf};
+ghost use Rattle.obj_sprites.specs.Code.{SizeOf, BaseOf, TexelReady, LineReady};
 use memory::PixelFormat;
 use memory::TILE_SIZE;
 use regs::ObjMapping;
@@ -308,7 +308,7 @@ impl ObjAttrs {
         x: usize,
         y: usize,
     ) -> usize
-        requires { ⌜ Decoded self × BaseOf reading mapping self base × (x < self .width) × (y < self .height) ⌝ }
+        requires { ⌜ TexelReady reading mapping self base x y ⌝ }
         ensures { λ r. ⌜ (r ≡ tileAt reading mapping self x y) × (r + 63 < videoRamSize) ⌝ }
     {
         let format = self.format;
@@ -326,7 +326,7 @@ impl ObjAttrs {
         tiles_start: usize,
         line: usize,
     ) -> bool
-        requires { ⌜ Decoded self × («tiles_start» % 64 ≡ 0) × (line < 160) ⌝ }
+        requires { ⌜ LineReady self «tiles_start» line ⌝ }
         ensures { λ r. ⌜ r ≡ drawn reading mapping «tiles_start» self line ⌝ }
     {
         let objtype = self.objtype;

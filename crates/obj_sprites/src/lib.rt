@@ -2,10 +2,11 @@
 ghost use mathlib.Core.Path.{_≡_};
 ghost use Prim.Native.Nat.{_%_, _<_};
 ghost use lib.ListN.{length};
-ghost use Rattle.memory.specs.Sizes.{videoRamSize, paletteRamSize, oamSize};
+ghost use Rattle.memory.specs.Sizes.{oamSize};
+ghost use Rattle.memory.specs.Code.{Lent};
 ghost use Rattle.obj_sprites.specs.Attrs.{sprite, Decoded};
 ghost use Rattle.obj_sprites.specs.Tiles.{tilesStart, texel};
-ghost use Rattle.obj_sprites.specs.Code.{BaseOf};
+ghost use Rattle.obj_sprites.specs.Code.{TexelReady};
 
 mod attrs;
 
@@ -56,12 +57,7 @@ pub fn read_texel(
     x: usize,
     y: usize,
 ) -> Rgb15
-    requires { ⌜ (length (now vram) ≡ videoRamSize)
-        × (length (now palette) ≡ paletteRamSize)
-        × Decoded attrs
-        × BaseOf reading mapping attrs base
-        × (x < attrs .width)
-        × (y < attrs .height) ⌝ }
+    requires { ⌜ Lent (now vram) (now palette) × TexelReady reading mapping attrs base x y ⌝ }
     ensures { λ c.
         ⌜ c .0 ≡ texel reading mapping (now (vram .entry)) (now (palette .entry)) attrs x y ⌝ }
 {

@@ -20,6 +20,7 @@ use Rattle.obj_sprites.specs.Oam.{Matrix}
 use Rattle.obj_sprites.specs.Place.{boxWidth, onLine}
 use Rattle.obj_sprites.specs.Tiles.{texel}
 use Rattle.obj_sprites.specs.Color.{colorAt, turn}
+use Rattle.obj_sprites.specs.Code.{BaseOf}
 use Rattle.obj_sprites.specs.declared.attrs.ObjAttrs.{ObjAttrs}
 use Rattle.obj_texels.specs.declared.affine.AffineMatrix.{AffineMatrix}
 use Rattle.obj_texels.specs.declared.affine.Turn.{Turn}
@@ -32,6 +33,12 @@ pub record NormalRow (vram palette : List ℕ) (s : ObjAttrs) (y : ℕ) : Type 0
   pub decoded : Decoded s
   pub whole : s .width % 8 ≡ 0
   pub y< : y < s .height
+
+-- Tile t of such a row, of a sprite whose tiles start at base.
+pub record ShownTile (reading : Reading) (mapping : ObjMapping) (vram palette : List ℕ) (s : ObjAttrs) (base y t : ℕ) : Type 0 where
+  pub row : NormalRow vram palette s y
+  pub base-of : BaseOf reading mapping s base
+  pub t< : t < s .width / 8
 
 -- The colour of column x of row y of a normal sprite, counted from the left as shown; past the sprite's width there is none.
 unfoldable pub rowTexel : Reading → ObjMapping → List ℕ → List ℕ → ObjAttrs → ℕ → ℕ → ℕ
@@ -116,7 +123,14 @@ pub record Turned (vram palette : List ℕ) (s : ObjAttrs) (t : Turn) : Type 0 w
   pub decoded : Decoded s
   pub ranged : Ranged t
 
--- The same, for the columns from one up to another.
+-- The point of column i, of a sprite whose tiles start at base.
+pub record BoxPoint (reading : Reading) (mapping : ObjMapping) (vram palette : List ℕ) (s : ObjAttrs) (base : ℕ) (t : Turn)
+    (i : ℕ) : Type 0 where
+  pub turned : Turned vram palette s t
+  pub base-of : BaseOf reading mapping s base
+  pub i≤ : i ≤ 127
+
+-- The points of the columns from one up to another.
 pub record TurnedRow (vram palette : List ℕ) (s : ObjAttrs) (t : Turn) (from to : ℕ) : Type 0 where
   pub turned : Turned vram palette s t
   pub from≤ : from ≤ to

@@ -9,9 +9,8 @@ ghost use Rattle.memory.specs.Sizes.{oamSize};
 ghost use Rattle.rows.specs.Tab.{tab};
 ghost use Rattle.obj_sprites.specs.Oam.{matrix};
 ghost use Rattle.obj_sprites.specs.Place.{boxHeight, below};
-ghost use Rattle.obj_sprites.specs.Code.{BaseOf};
 ghost use Rattle.obj_texels.specs.Code.{MatrixOf, StartOf, TurnOf, pointAt, boxPointColor, affineTexel};
-ghost use Rattle.obj_texels.specs.Code.{StartRanges, TurnLine, PointRanges, Turned, TurnedRow};
+ghost use Rattle.obj_texels.specs.Code.{StartRanges, TurnLine, PointRanges, BoxPoint, TurnedRow};
 use memory::read_16;
 use obj_sprites::ATTRS_SIZE;
 use obj_sprites::BOX_MAX;
@@ -127,7 +126,7 @@ pub fn point_color(
     turn: Turn,
     i: usize,
 ) -> Rgb15
-    requires { ⌜ Turned (now vram) (now palette) attrs turn × BaseOf reading mapping attrs base × (i ≤ 127) ⌝ }
+    requires { ⌜ BoxPoint reading mapping (now vram) (now palette) attrs base turn i ⌝ }
     ensures { λ c. ⌜ c .0 ≡ boxPointColor reading mapping (now (vram .entry)) (now (palette .entry)) attrs turn i ⌝ }
 {
     let width = attrs.width;

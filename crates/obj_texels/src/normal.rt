@@ -8,8 +8,7 @@ ghost use Rattle.memory.specs.Tiles.{tilePixel};
 ghost use Rattle.tiles.specs.Flip.{flip};
 ghost use Rattle.tiles.specs.Code.{ColorRow};
 ghost use Rattle.obj_sprites.specs.Tiles.{texel};
-ghost use Rattle.obj_sprites.specs.Code.{BaseOf};
-ghost use Rattle.obj_texels.specs.Code.{NormalRow, rowTexel};
+ghost use Rattle.obj_texels.specs.Code.{NormalRow, ShownTile, rowTexel};
 use memory::PixelFormat;
 use obj_sprites::BOX_MAX;
 use obj_sprites::ObjAttrs;
@@ -61,7 +60,7 @@ fn shown_tile(
     y: usize,
     t: usize,
 ) -> [Rgb15; TILE_SIDE]
-    requires { ⌜ NormalRow (now vram) (now palette) attrs y × BaseOf reading mapping attrs base × (t < attrs .width / 8) ⌝ }
+    requires { ⌜ ShownTile reading mapping (now vram) (now palette) attrs base y t ⌝ }
     ensures { λ r. ⌜ r ≡ tab (λ k. rgb (texel reading mapping (now (vram .entry)) (now (palette .entry)) attrs
         (flip (attrs .«h_flip») (attrs .width) (8 * t + k)) y)) 8 ⌝ }
 {

@@ -2,7 +2,7 @@
 use Prim.Native.Nat.{ℕ, zero, suc, _+_, _*_, _/_, _%_, _≤_, _<_}
 use native.Mathlib.Omega.{arith}
 use mathlib.Core.Path.{_≡_, refl, ap, ap₂, _∙_}
-use mathlib.Core.Bool.{Bool, true, false, cond}
+use mathlib.Core.Bool.{Bool, true, false, cond, _&&_}
 use mathlib.Core.List.{List}
 use lib.Dec.{eqb}
 use lib.IntN.{ℤ}
@@ -111,10 +111,15 @@ module _ (mapping : ObjMapping) where
       rw (evenHalf-tile ignored (a .third), priority-is, bank-is)
 
   module _ (oam : List ℕ) where
+    byte-even : (at : ℕ) → at < oamSize
+        → byte (evenOam mapping oam) at
+        ≡ evenHalf (eqb (at % 8) 4 && ignoresLowestBit H mapping (sprite oam (at / 8) .format)) (byte oam at)
+    unfolding evenOam
+    byte-even at at< = getD-tab _ oamSize at 0 at<
+
     -- Every byte but a sprite's fifth is as it was.
     byte-kept : (at r : ℕ) → at < oamSize → at % 8 ≡ r → eqb r 4 ≡ false → byte (evenOam mapping oam) at ≡ byte oam at
-    unfolding evenOam
-    byte-kept at r at< r-is other = getD-tab _ oamSize at 0 at< ∙ rw (r-is, other)
+    byte-kept at r at< r-is other = byte-even at at< ∙ rw (r-is, other)
 
     half-kept : (at r : ℕ) → at + 1 < oamSize → at % 8 ≡ r → r < 7 → eqb r 4 ≡ false → eqb (r + 1) 4 ≡ false
         → half (evenOam mapping oam) at ≡ half oam at
@@ -128,11 +133,10 @@ module _ (mapping : ObjMapping) where
     fifth-even : (n : ℕ) → n < 128
         → byte (evenOam mapping oam) (8 * n + 4)
         ≡ evenHalf (ignoresLowestBit H mapping (sprite oam n .format)) (byte oam (8 * n + 4))
-    unfolding evenOam
     fifth-even n n< =
         let place : (8 * n + 4) % 8 ≡ 4 = omega arith in
         let number : (8 * n + 4) / 8 ≡ n = omega arith in
-        getD-tab _ oamSize (8 * n + 4) 0 (omega arith) ∙ rw (place, number)
+        byte-even (8 * n + 4) (omega arith) ∙ rw (place, number)
 
     third-even : (n : ℕ) → n < 128
         → half (evenOam mapping oam) (8 * n + 4)

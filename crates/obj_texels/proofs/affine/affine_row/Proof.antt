@@ -43,7 +43,11 @@ affine-row-spec =
     μ-loop
     (search needs)
     (λ c. mapped-from (length-replicate 128 (rgb transparent)) (omega arith))
-    (λ c κs. (start (c .before) .pre .turned, c .before .before .tile-base .ensures, omega arith))
+    (λ c κs. record {
+      turned = start (c .before) .pre .turned;
+      base-of = c .before .before .tile-base .ensures;
+      i≤ = omega arith;
+    })
     (λ c. omega arith)
     (λ c. omega arith)
     (λ c. omega arith)

@@ -30,9 +30,10 @@ bounds c =
 texel-read : tie.Need-read-texel-requires
 texel-read c κs =
     let pre = start (c .before) .pre in
-    let lent = pre .0 .lent in
-    let inside = bounds c in
-    (lent .vram-is, lent .palette-is, pre .0 .decoded, pre .1, omega arith, omega arith)
+    let inside = bounds c in (
+      pre .turned .lent,
+      record { decoded = pre .turned .decoded; base-of = pre .base-of; x< = omega arith; y< = omega arith },
+    )
 
 inside : tie.Need-returns
 inside c =

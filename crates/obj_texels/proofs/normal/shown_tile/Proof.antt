@@ -14,7 +14,7 @@ returns c =
     let start = bank .before .before .before in
     let at = start .args in
     row-shown (at .reading) (at .mapping) (at .vram .now) (at .palette .now) (at .attrs) (at .y) (at .t)
-    (omega (arith, start .pre .0 .whole)) (start .pre .2) (flipped .flip .ensures .0) (addressed .tile-at .ensures .0)
+    (omega (arith, start .pre .row .whole)) (start .pre .t<) (flipped .flip .ensures .0) (addressed .tile-at .ensures .0)
     (bank .palette-bank .ensures .0) (c .tile-row .ensures)
 
 pub shown-tile-spec : {M : Type 1} → statement M

@@ -60,7 +60,11 @@ texel-row-spec =
     μ-loop
     (search needs)
     (λ c. (omega arith, tilesSet-none (length-replicate 128 (rgb transparent))))
-    (λ c κs. (start (c .before) .pre, c .before .before .tile-base .ensures, c .loop-test .taken))
+    (λ c κs. record {
+      row = start (c .before) .pre;
+      base-of = c .before .before .tile-base .ensures;
+      t< = c .loop-test .taken;
+    })
     (λ c. omega arith)
     (λ c. omega arith)
     (λ c. omega arith)
