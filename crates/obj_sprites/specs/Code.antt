@@ -5,11 +5,12 @@ use Prim.Native.Nat.{ℕ, _%_, _≤_, _<_}
 use mathlib.Core.Path.{_≡_}
 use Rattle.regs.specs.declared.ObjMapping.{ObjMapping}
 use Rattle.regs.specs.declared.reading.Reading.{Reading}
-use Rattle.obj_sprites.specs.Size.{objWidth, objHeight}
+use Rattle.obj_sprites.specs.Size.{objWidth, objHeight, objSize}
 use Rattle.obj_sprites.specs.Attrs.{Decoded}
 use Rattle.obj_sprites.specs.Tiles.{tileBase}
 use Rattle.obj_sprites.specs.declared.attrs.ObjAttrs.{ObjAttrs}
 use Rattle.obj_sprites.specs.declared.attrs.ObjSize.{ObjSize}
+use Rattle.obj_sprites.specs.declared.attrs.Size.{Size}
 
 -- A width and a height are those of a size and a shape.
 pub record SizeOf (size shape : ℕ) (r : ObjSize) : Type 0 where
@@ -17,6 +18,11 @@ pub record SizeOf (size shape : ℕ) (r : ObjSize) : Type 0 where
   pub height-is : r .1 ≡ objHeight size shape
   pub width≤ : r .0 ≤ 64
   pub height≤ : r .1 ≤ 64
+
+-- A width and a height are the table's of a size and a shape.
+pub record CellOf (size shape : ℕ) (r : Size) : Type 0 where
+  pub width-is : r .0 ≡ objSize size shape .0
+  pub height-is : r .1 ≡ objSize size shape .1
 
 -- A sprite's tiles start at base.
 pub record BaseOf (reading : Reading) (mapping : ObjMapping) (s : ObjAttrs) (base : ℕ) : Type 0 where

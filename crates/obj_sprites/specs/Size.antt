@@ -18,3 +18,17 @@ objWidth size shape = getD (getD widths shape []) size 8
 -- The height by (size, shape); shape 3 is always 8x8.
 unfoldable pub objHeight : ℕ → ℕ → ℕ
 objHeight size shape = getD (getD heights shape []) size 8
+
+-- Width and height, laid out as in the notes: a row for each size, 0 to 3; square, wide, tall, and the prohibited shape,
+-- which is always 8x8.
+unfoldable pub objSizes : List (List (ℕ × ℕ))
+objSizes =
+    ((8, 8) ∷ (16, 8) ∷ (8, 16) ∷ (8, 8) ∷ [])
+    ∷ ((16, 16) ∷ (32, 8) ∷ (8, 32) ∷ (8, 8) ∷ [])
+    ∷ ((32, 32) ∷ (32, 16) ∷ (16, 32) ∷ (8, 8) ∷ [])
+    ∷ ((64, 64) ∷ (64, 32) ∷ (32, 64) ∷ (8, 8) ∷ [])
+    ∷ []
+
+-- The cell of a size and a shape.
+unfoldable pub objSize : ℕ → ℕ → ℕ × ℕ
+objSize size shape = getD (getD objSizes size []) shape (0, 0)

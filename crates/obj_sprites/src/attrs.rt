@@ -12,7 +12,7 @@ ghost use Rattle.obj_sprites.specs.Attrs.{objMode, objType, objAttrs, De
 ghost use Rattle.obj_sprites.specs.Place.{boxed, boxWidth, boxHeight, left, top, below, onLine};
 ghost use Rattle.obj_sprites.specs.Tiles.{ignoresLowestBit, tileNumber, tileRow, tileAt};
 ghost use Rattle.obj_sprites.specs.Sprite.{isShown, isPermitted, drawn};
-ghost use Rattle.obj_sprites.specs.Code.{SizeOf, BaseOf, TexelReady, LineReady};
+ghost use Rattle.obj_sprites.specs.Code.{SizeOf, CellOf, BaseOf, TexelReady, LineReady};
 use memory::PixelFormat;
 use memory::TILE_SIZE;
 use regs::ObjMapping;
@@ -139,6 +139,27 @@ impl ObjSize {
             14 => ObjSize(8, 8),
             _ => ObjSize(8, 8),
         }
+    }
+}
+
+// A width and a height, as the table has them.
+struct Size(u8, u8);
+
+// Width and height, laid out as in GBATEK: a row for each size, 0 to 3; square, wide, tall, and the prohibited shape, which
+// is always 8x8.
+const OBJ_SIZES: [[Size; 4]; 4] = [
+    [Size(8, 8), Size(16, 8), Size(8, 16), Size(8, 8)],
+    [Size(16, 16), Size(32, 8), Size(8, 32), Size(8, 8)],
+    [Size(32, 32), Size(32, 16), Size(16, 32), Size(8, 8)],
+    [Size(64, 64), Size(64, 32), Size(32, 64), Size(8, 8)],
+];
+
+impl Size {
+    fn from(size: u16, shape: u16) -> Size
+        requires { ⌜ (size < 4) × (shape < 4) ⌝ }
+        ensures { λ r. ⌜ CellOf size shape r ⌝ }
+    {
+        OBJ_SIZES[size as usize][shape as usize]
     }
 }
 
