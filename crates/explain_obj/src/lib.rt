@@ -154,11 +154,14 @@ fn sprite_step(e: Entry, vram: &[u8], palette: &[u8], oam: &[u8], view: View, ob
         (sourceOf (now (vram .entry)) (now (palette .entry)) (now (oam .entry)) view)
         (view .line) obj (view .column) e ⌝ }
 {
-    let attrs = read_obj_attrs(oam, obj);
-    let objmode = attrs.objmode;
     let reading = view.reading;
     let mapping = view.mapping;
+    if !read_obj_attrs(oam, obj).is_near(reading, view.line) {
+        return e;
+    }
+    let attrs = read_obj_attrs(oam, obj);
     if attrs.is_drawn(reading, mapping, view.tiles_start, view.line) {
+        let objmode = attrs.objmode;
         let pixel_color = typed_color(vram, palette, oam, attrs, view);
         put_pixel(e, objmode, attrs.priority, pixel_color)
     } else {

@@ -2,7 +2,7 @@
 -- No exported contract reaches this file. Assumes nothing.
 use Prim.Native.Nat.{ℕ, _+_, _-_, _%_, _≤_, _<_}
 use mathlib.Core.Path.{_≡_}
-use mathlib.Core.Bool.{true, false}
+use mathlib.Core.Bool.{true}
 use mathlib.Core.List.{List}
 use lib.ListN.{length, getD}
 use Rattle.rgb15.specs.Colour.{rgb}
@@ -10,11 +10,9 @@ use Rattle.rgb15.specs.declared.Rgb15.{Rgb15}
 use Rattle.rows.specs.Below.{between}
 use Rattle.rows.specs.Cells.{cellAt, putCell, only, mapRow}
 use Rattle.memory.specs.Sizes.{videoRamSize, paletteRamSize, oamSize, registersSize}
-use Rattle.regs.specs.declared.ObjMapping.{ObjMapping}
 use Rattle.regs.specs.declared.reading.Reading.{Reading}
-use Rattle.obj_sprites.specs.Attrs.{sprite, Decoded}
+use Rattle.obj_sprites.specs.Attrs.{Decoded}
 use Rattle.obj_sprites.specs.Place.{onLine}
-use Rattle.obj_sprites.specs.Sprite.{drawn}
 use Rattle.obj_entries.specs.Entry.{entriesSize, entryCells}
 use Rattle.obj_entries.specs.declared.Entry.{Entry}
 use Rattle.obj_sprites.specs.declared.attrs.ObjAttrs.{ObjAttrs}
@@ -62,12 +60,21 @@ pub record AffineReady (entries vram palette oam : List ℕ) (reading : Reading)
   pub decoded : Decoded s
   pub on-line : OnLine reading s line
 
--- A sprite of OAM.
-pub record ObjReady (entries vram palette oam : List ℕ) (reading : Reading) (line obj : ℕ) : Type 0 where
+-- One of any type.
+pub record ObjReady (entries vram palette oam : List ℕ) (reading : Reading) (s : ObjAttrs) (line : ℕ) : Type 0 where
   pub lengths : ObjLengths entries vram palette
   pub oam-is : length oam ≡ oamSize
+  pub decoded : Decoded s
+  pub whole : s .width % 8 ≡ 0
+  pub on-line : OnLine reading s line
+
+-- A sprite of OAM, drawn on the line or not; sprite tiles start at a whole tile.
+pub record PutReady (entries vram palette oam : List ℕ) (start line obj : ℕ) : Type 0 where
+  pub lengths : ObjLengths entries vram palette
+  pub oam-is : length oam ≡ oamSize
+  pub whole : start % 64 ≡ 0
+  pub line< : line < 160
   pub obj< : obj < 128
-  pub on-line : OnLine reading (sprite oam obj) line
 
 -- What the sprites of a line are read from, and put in.
 pub record ObjsReady (entries vram palette oam registers : List ℕ) (line : ℕ) : Type 0 where
@@ -75,13 +82,6 @@ pub record ObjsReady (entries vram palette oam registers : List ℕ) (line : ℕ
   pub oam-is : length oam ≡ oamSize
   pub registers-is : length registers ≡ registersSize
   pub line< : line < 160
-
--- Where the sprites of a line are looked for; sprite tiles start at a whole tile.
-pub record NextReady (oam : List ℕ) (start line from : ℕ) : Type 0 where
-  pub oam-is : length oam ≡ oamSize
-  pub whole : start % 64 ≡ 0
-  pub line< : line < 160
-  pub from≤ : from ≤ 128
 
 -- ---- what a row becomes
 
@@ -129,12 +129,3 @@ Closed entries priority k = cellAt entryCells entries k .priority ≤ priority
 -- A sprite is passed over at a column.
 abbrev pub PassedOver : List ℕ → ObjAttrs → ℕ → Type 0
 PassedOver entries s k = passedOver (s .objmode) (s .priority) (cellAt entryCells entries k) ≡ true
-
--- Sprite n is not drawn on a line.
-abbrev pub NotDrawn : Reading → ObjMapping → ℕ → List ℕ → ℕ → ℕ → Type 0
-NotDrawn reading mapping start oam line n = drawn reading mapping start (sprite oam n) line ≡ false
-
--- Sprite r is the first from a on that is drawn on a line; it is 128 if none is.
-pub record NextDrawn (reading : Reading) (mapping : ObjMapping) (start : ℕ) (oam : List ℕ) (line a r : ℕ) : Type 0 where
-  pub walked : Walked (NotDrawn reading mapping start oam line) a 128 r
-  pub next : r < 128 → drawn reading mapping start (sprite oam r) line ≡ true

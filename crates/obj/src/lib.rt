@@ -7,11 +7,11 @@ ghost use Rattle.obj_entries.specs.Entry.{entriesSize};
 ghost use Rattle.obj_sprites.specs.Oam.{matrix};
 ghost use Rattle.obj_sprites.specs.Attrs.{sprite};
 ghost use Rattle.obj_sprites.specs.Color.{normalColor, affineObjColor};
-ghost use Rattle.obj_sprites.specs.Sprite.{source, typedColor};
+ghost use Rattle.obj_sprites.specs.Sprite.{source, typedColor, spriteColor};
 ghost use Rattle.obj.specs.Put.{shownBy, windowed, putSprites};
-ghost use Rattle.obj.specs.Code.{Columns, BoxColumns, NormalReady, AffineReady, ObjReady, ObjsReady, NextReady};
+ghost use Rattle.obj.specs.Code.{Columns, BoxColumns, NormalReady, AffineReady, ObjReady, PutReady, ObjsReady};
 ghost use Rattle.obj.specs.Code.{putColumn, putRow, putBox};
-ghost use Rattle.obj.specs.Code.{Walked, WalkedBack, Closed, PassedOver, NextDrawn};
+ghost use Rattle.obj.specs.Code.{Walked, WalkedBack, Closed, PassedOver};
 use memory::DISPLAY_WIDTH;
 use obj_entries::Entry;
 use obj_entries::entry_at;
@@ -290,26 +290,25 @@ fn write_obj_pixels(
     }
 }
 
-// The pixels of sprite obj, whose box holds the line, by its type.
+// The pixels of a sprite whose box holds the line, by its type.
 fn render_obj(
     entries: &mut [u8],
     vram: &[u8],
     palette: &[u8],
     oam: &[u8],
+    attrs: ObjAttrs,
     reading: Reading,
     mapping: ObjMapping,
     line: usize,
-    obj: usize,
 )
-    requires { ⌜ ObjReady (now entries) (now vram) (now palette) (now oam) reading line obj ⌝ }
+    requires { ⌜ ObjReady (now entries) (now vram) (now palette) (now oam) reading attrs line ⌝ }
     ensures { λ _.
         ⌜ now (entries .exit)
-        ≡ putRow (sprite (now (oam .entry)) obj)
-        (typedColor (sprite (now (oam .entry)) obj .objtype) reading mapping (now (vram .entry))
-        (now (palette .entry)) (now (oam .entry)) (sprite (now (oam .entry)) obj) line)
+        ≡ putRow attrs
+        (typedColor (attrs .objtype) reading mapping (now (vram .entry)) (now (palette .entry))
+        (now (oam .entry)) attrs line)
         (now (entries .entry)) ⌝ }
 {
-    let attrs = read_obj_attrs(oam, obj);
     let objtype = attrs.objtype;
     match objtype {
         ObjType::Hidden => {}
@@ -327,26 +326,39 @@ fn render_obj(
     }
 }
 
-// The first sprite from `from` on that is drawn on a line, or 128.
-fn next_obj(
+// The pixels of sprite obj, if it is drawn on the line.
+fn put_sprite(
+    entries: &mut [u8],
+    vram: &[u8],
+    palette: &[u8],
     oam: &[u8],
     reading: Reading,
     mapping: ObjMapping,
     tiles_start: usize,
     line: usize,
-    from: usize,
-) -> usize
-    requires { ⌜ NextReady (now oam) «tiles_start» line from ⌝ }
-    ensures { λ r. ⌜ NextDrawn reading mapping «tiles_start» (now (oam .entry)) line from r ⌝ }
+    obj: usize,
+)
+    requires { ⌜ PutReady (now entries) (now vram) (now palette) (now oam) «tiles_start» line obj ⌝ }
+    ensures { λ _.
+        ⌜ now (entries .exit)
+        ≡ putRow (sprite (now (oam .entry)) obj)
+        (spriteColor reading
+        (record {
+          vram = now (vram .entry);
+          palette = now (palette .entry);
+          oam = now (oam .entry);
+          mapping = mapping;
+          start = «tiles_start»;
+        })
+        line obj)
+        (now (entries .entry)) ⌝ }
 {
-    let mut obj = from;
-    while obj < OBJ_COUNT {
-        if read_obj_attrs(oam, obj).is_drawn(reading, mapping, tiles_start, line) {
-            return obj;
+    if read_obj_attrs(oam, obj).is_near(reading, line) {
+        let attrs = read_obj_attrs(oam, obj);
+        if attrs.is_drawn(reading, mapping, tiles_start, line) {
+            render_obj(entries, vram, palette, oam, attrs, reading, mapping, line)
         }
-        obj += 1;
     }
-    obj
 }
 
 // The pixels of a line's sprites put in its row of entries.
@@ -375,9 +387,19 @@ pub fn render_objs(
     let dispcnt = read_dispcnt(registers);
     let mapping = dispcnt.obj_mapping();
     let tiles_start = obj_tiles_start(dispcnt.mode);
-    let mut obj = next_obj(oam, reading, mapping, tiles_start, line, 0);
+    let mut obj = 0;
     while obj < OBJ_COUNT {
-        render_obj(entries, vram, palette, oam, reading, mapping, line, obj);
-        obj = next_obj(oam, reading, mapping, tiles_start, line, obj + 1);
+        put_sprite(
+            entries,
+            vram,
+            palette,
+            oam,
+            reading,
+            mapping,
+            tiles_start,
+            line,
+            obj,
+        );
+        obj += 1;
     }
 }

@@ -1,5 +1,5 @@
 -- Laws of decoded sprites. No contract cites this file. Assumes nothing.
-use Prim.Native.Nat.{ℕ, zero, suc, _+_, _*_, _/_, _%_, _^_, _≤_, _<_}
+use Prim.Native.Nat.{ℕ, _+_, _*_, _/_, _%_, _^_, _≤_, _<_}
 use native.Mathlib.Omega.{arith}
 use mathlib.Core.Path.{_≡_, refl, sym, ap, ap₂, _∙_}
 use mathlib.Core.Bool.{Bool, true, _&&_}
@@ -14,11 +14,10 @@ use Rattle.bits.proofs.Booleans.{and-both}
 use Rattle.rows.specs.Below.{allBelow}
 use Rattle.rows.proofs.Below.{allBelow-at}
 use Rattle.obj_sprites.specs.Oam.{Attributes}
-use Rattle.obj_sprites.specs.Size.{widths, heights, objWidth, objHeight, objSizes, objSize}
+use Rattle.obj_sprites.specs.Size.{objSizes, objSize, objWidth, objHeight}
 use Rattle.obj_sprites.specs.Attrs.{objAttrs}
-use Rattle.obj_sprites.specs.Code.{SizeOf, CellOf}
+use Rattle.obj_sprites.specs.Code.{SizeOf}
 use Rattle.obj_sprites.specs.declared.attrs.ObjAttrs.{ObjAttrs}
-use Rattle.obj_sprites.specs.declared.attrs.ObjSize.{ObjSize}
 use Rattle.obj_sprites.specs.declared.attrs.Size.{Size}
 
 -- A halfword that was read and lifted.
@@ -30,43 +29,7 @@ pub priority-bound : (a : Attributes) → objAttrs a .priority ≤ 3
 unfolding objAttrs
 priority-bound a = omega arith
 
--- ---- sizes, of which 4 * shape + size is the number
-
--- The size of number n.
-size-at : (n size shape : ℕ) → size < 4 → 4 * shape + size ≡ n
-    → (objWidth (n % 4) (n / 4) ≡ objWidth size shape) × (objHeight (n % 4) (n / 4) ≡ objHeight size shape)
-size-at n size shape size< n-is =
-    let column : n % 4 ≡ size = omega arith in
-    let row : n / 4 ≡ shape = omega arith in
-    (ap₂ objWidth column row, ap₂ objHeight column row)
-
-sizes-bound : allBelow (λ n. leb (objWidth (n % 4) (n / 4)) 64 && leb (objHeight (n % 4) (n / 4)) 64) 16 ≡ true
-unfolding objWidth objHeight widths heights allBelow
-sizes-bound = refl
-
--- What a table of all 16 sizes has at n.
-pub size-is : (n : ℕ) {size shape : ℕ} → (size < 4) × (shape < 4) → 4 * shape + size ≡ n
-    → SizeOf size shape (record { 0 = objWidth (n % 4) (n / 4); 1 = objHeight (n % 4) (n / 4) })
-size-is n {size} {shape} small n-is =
-    let sized = size-at n size shape (small .0) n-is in
-    let bounds = and-both _ _ (allBelow-at _ 16 sizes-bound n (omega arith)) in
-    record {
-      width-is = sized .0;
-      height-is = sized .1;
-      width≤ = leb-true _ _ (bounds .0);
-      height≤ = leb-true _ _ (bounds .1);
-    }
-
--- Every width is one of whole tiles.
-widths-whole : allBelow (λ n. eqb (objWidth (n % 4) (n / 4) % 8) 0) 16 ≡ true
-unfolding objWidth widths allBelow
-widths-whole = refl
-
-objWidth-whole : (size shape : ℕ) → size < 4 → shape < 4 → objWidth size shape % 8 ≡ 0
-objWidth-whole size shape size< shape< =
-    let n = 4 * shape + size in
-    ap (λ width. width % 8) (sym (size-at n size shape size< refl .0))
-    ∙ eqb-true _ _ (allBelow-at _ 16 widths-whole n (omega arith))
+-- ---- sizes
 
 -- A test of the whole table holds of each size and shape.
 cells : (test : ℕ → ℕ → Bool) → allBelow (λ n. test (n / 4) (n % 4)) 16 ≡ true → (size shape : ℕ)
@@ -78,52 +41,45 @@ cells test all size shape small =
     let column : n % 4 ≡ shape = omega arith in
     sym (ap₂ test row column) ∙ allBelow-at _ 16 all n (omega arith)
 
-unfoldable agree : ℕ → ℕ → Bool
-agree size shape = eqb (objWidth size shape) (objSize size shape .0) && eqb (objHeight size shape) (objSize size shape .1)
+unfoldable fits : ℕ → ℕ → Bool
+fits size shape =
+    leb (objWidth size shape) 64 && leb (objHeight size shape) 64 && eqb (objWidth size shape % 8) 0
 
-all-agree : allBelow (λ n. agree (n / 4) (n % 4)) 16 ≡ true
-unfolding agree objWidth objHeight widths heights objSize objSizes allBelow
-all-agree = refl
+all-fit : allBelow (λ n. fits (n / 4) (n % 4)) 16 ≡ true
+unfolding fits objWidth objHeight objSize objSizes allBelow
+all-fit = refl
 
--- The decision by shape and the table agree for every size and shape (W-204).
-pub sizes-agree : (size shape : ℕ) → (size < 4) × (shape < 4)
-    → (objWidth size shape ≡ objSize size shape .0) × (objHeight size shape ≡ objSize size shape .1)
-unfolding agree
-sizes-agree size shape small =
-    let both = and-both _ _ (cells agree all-agree size shape small) in (eqb-true _ _ (both .0), eqb-true _ _ (both .1))
-
--- So what `ObjSize::from` decides is what `Size::from` reads off the table (W-204).
-pub decision-is-cell : {size shape : ℕ} {decided : ObjSize} {read : Size} → (size < 4) × (shape < 4)
-    → SizeOf size shape decided
-    → CellOf size shape read
-    → (decided .0 ≡ read .0) × (decided .1 ≡ read .1)
-decision-is-cell {size} {shape} small decided read =
-    let same = sizes-agree size shape small in
-    (decided .width-is ∙ same .0 ∙ sym (read .width-is), decided .height-is ∙ same .1 ∙ sym (read .height-is))
+-- No side is above 64, and every width is one of whole tiles.
+size-fits : (size shape : ℕ) → (size < 4) × (shape < 4)
+    → (objWidth size shape ≤ 64) × (objHeight size shape ≤ 64) × (objWidth size shape % 8 ≡ 0)
+unfolding fits
+size-fits size shape small =
+    let all = and-both _ _ (cells fits all-fit size shape small) in
+    let sides = and-both _ _ (all .0) in
+    (leb-true _ _ (sides .0), leb-true _ _ (sides .1), eqb-true _ _ (all .1))
 
 -- A cell as code has it.
 unfoldable pub cell : ℕ × ℕ → Size
 cell sides = record { 0 = sides .0; 1 = sides .1 }
 
--- The code's table is the definition's, whatever is read of it.
-pub cell-is : (size shape : ℕ)
-    → CellOf size shape (getD (getD (map (map cell) objSizes) size []) shape (cell (0, 0)))
-unfolding objSize cell
-cell-is size shape =
-    let is = ap (λ row. getD row shape (cell (0, 0))) (List·getD-map (map cell) objSizes size [])
-    ∙ List·getD-map cell (getD objSizes size []) shape (0, 0) in
-    record { width-is = ap (λ s. s .0) is; height-is = ap (λ s. s .1) is }
-
--- n is none of the numbers below k, as the last arm of a `match` is told.
-abbrev pub NoneBelow : ℕ → ℕ → Type 0
-NoneBelow zero n = Unit
-NoneBelow (suc k) n = NoneBelow k n × (n ≡ k → ⊥)
-
-pub noneBelow-bound : (k n : ℕ) → NoneBelow k n → k ≤ n
-noneBelow-bound zero n none = omega arith
-noneBelow-bound (suc k) n none = omega (arith, noneBelow-bound k n (none .0), none .1)
+-- What is read of the code's table, which is the definition's.
+pub size-is : (size shape : ℕ) → (size < 4) × (shape < 4)
+    → SizeOf size shape (getD (getD (map (map cell) objSizes) size []) shape (cell (0, 0)))
+unfolding objWidth objHeight objSize cell
+size-is size shape small =
+    let row-is = List·getD-map (map cell) objSizes size [] in
+    let is = ap (λ row. getD row shape (cell (0, 0))) row-is ∙ List·getD-map cell (getD objSizes size []) shape (0, 0) in
+    let bounds = size-fits size shape small in
+    record {
+      width-is = ap (λ r. r .0) is;
+      height-is = ap (λ r. r .1) is;
+      width≤ = omega (arith, ap (λ r. r .0) is, bounds .0);
+      height≤ = omega (arith, ap (λ r. r .1) is, bounds .1);
+    }
 
 pub width-whole : (a : Attributes) {s : ObjAttrs} → s ≡ objAttrs a → s .width % 8 ≡ 0
 unfolding objAttrs
 width-whole a s-is =
-    ap (λ s. s .width % 8) s-is ∙ objWidth-whole (bits 15 14 (a .second)) (bits 15 14 (a .first)) (omega arith) (omega arith)
+    let size = bits 15 14 (a .second) in
+    let shape = bits 15 14 (a .first) in
+    ap (λ s. s .width % 8) s-is ∙ size-fits size shape (omega arith, omega arith) .2

@@ -3,22 +3,6 @@ use Prim.Native.Nat.{ℕ}
 use mathlib.Core.List.{List, [], _∷_}
 use lib.ListN.{getD}
 
--- The widths of sizes 0 to 3: square, wide, tall.
-unfoldable pub widths : List (List ℕ)
-widths = (8 ∷ 16 ∷ 32 ∷ 64 ∷ []) ∷ (16 ∷ 32 ∷ 32 ∷ 64 ∷ []) ∷ (8 ∷ 8 ∷ 16 ∷ 32 ∷ []) ∷ []
-
--- The heights of sizes 0 to 3: square, wide, tall.
-unfoldable pub heights : List (List ℕ)
-heights = (8 ∷ 16 ∷ 32 ∷ 64 ∷ []) ∷ (8 ∷ 8 ∷ 16 ∷ 32 ∷ []) ∷ (16 ∷ 32 ∷ 32 ∷ 64 ∷ []) ∷ []
-
--- The width by (size, shape); shape 3 is always 8x8.
-unfoldable pub objWidth : ℕ → ℕ → ℕ
-objWidth size shape = getD (getD widths shape []) size 8
-
--- The height by (size, shape); shape 3 is always 8x8.
-unfoldable pub objHeight : ℕ → ℕ → ℕ
-objHeight size shape = getD (getD heights shape []) size 8
-
 -- Width and height, laid out as in the notes: a row for each size, 0 to 3; square, wide, tall, and the prohibited shape,
 -- which is always 8x8.
 unfoldable pub objSizes : List (List (ℕ × ℕ))
@@ -32,3 +16,11 @@ objSizes =
 -- The cell of a size and a shape.
 unfoldable pub objSize : ℕ → ℕ → ℕ × ℕ
 objSize size shape = getD (getD objSizes size []) shape (0, 0)
+
+-- The width by (size, shape).
+unfoldable pub objWidth : ℕ → ℕ → ℕ
+objWidth size shape = objSize size shape .0
+
+-- The height by (size, shape).
+unfoldable pub objHeight : ℕ → ℕ → ℕ
+objHeight size shape = objSize size shape .1

@@ -12,7 +12,7 @@ ghost use Rattle.obj_sprites.specs.Attrs.{objMode, objType, objAttrs, De
 ghost use Rattle.obj_sprites.specs.Place.{boxed, boxWidth, boxHeight, left, top, below, onLine};
 ghost use Rattle.obj_sprites.specs.Tiles.{ignoresLowestBit, tileNumber, tileRow, tileAt};
 ghost use Rattle.obj_sprites.specs.Sprite.{isShown, isPermitted, drawn};
-ghost use Rattle.obj_sprites.specs.Code.{SizeOf, CellOf, BaseOf, TexelReady, LineReady};
+ghost use Rattle.obj_sprites.specs.Code.{SizeOf, BaseOf, TexelReady, LineReady, isNear};
 use memory::PixelFormat;
 use memory::TILE_SIZE;
 use regs::ObjMapping;
@@ -109,40 +109,6 @@ impl ObjType {
 }
 
 // A width and a height.
-struct ObjSize(usize, usize);
-
-impl ObjSize {
-    fn from(size: u16, shape: u16) -> ObjSize
-        requires { ⌜ (size < 4) × (shape < 4) ⌝ }
-        ensures { λ r. ⌜ SizeOf size shape r ⌝ }
-    {
-        // All 16 are written out, so that this is a table and has no jump.
-        match 4 * shape + size {
-            // Square
-            0 => ObjSize(8, 8),
-            1 => ObjSize(16, 16),
-            2 => ObjSize(32, 32),
-            3 => ObjSize(64, 64),
-            // Wide
-            4 => ObjSize(16, 8),
-            5 => ObjSize(32, 8),
-            6 => ObjSize(32, 16),
-            7 => ObjSize(64, 32),
-            // Tall
-            8 => ObjSize(8, 16),
-            9 => ObjSize(8, 32),
-            10 => ObjSize(16, 32),
-            11 => ObjSize(32, 64),
-            // Prohibited
-            12 => ObjSize(8, 8),
-            13 => ObjSize(8, 8),
-            14 => ObjSize(8, 8),
-            _ => ObjSize(8, 8),
-        }
-    }
-}
-
-// A width and a height, as the table has them.
 struct Size(u8, u8);
 
 // Width and height, laid out as in GBATEK: a row for each size, 0 to 3; square, wide, tall, and the prohibited shape, which
@@ -157,7 +123,7 @@ const OBJ_SIZES: [[Size; 4]; 4] = [
 impl Size {
     fn from(size: u16, shape: u16) -> Size
         requires { ⌜ (size < 4) × (shape < 4) ⌝ }
-        ensures { λ r. ⌜ CellOf size shape r ⌝ }
+        ensures { λ r. ⌜ SizeOf size shape r ⌝ }
     {
         OBJ_SIZES[size as usize][shape as usize]
     }
@@ -204,7 +170,7 @@ impl ObjAttrs {
         ensures { λ s.
             ⌜ (s ≡ objAttrs (record { first = attr0; second = attr1; third = attr2 })) × Decoded s ⌝ }
     {
-        let size = ObjSize::from(attr1 / 0x4000 % 4, attr0 / 0x4000 % 4);
+        let size = Size::from(attr1 / 0x4000 % 4, attr0 / 0x4000 % 4);
         ObjAttrs {
             y: (attr0 % 0x100) as usize,
             objtype: ObjType::from(attr0 / 0x100 % 4),
@@ -214,8 +180,8 @@ impl ObjAttrs {
             affine_index: (attr1 / 0x200 % 32) as usize,
             h_flip: attr1 / 0x1000 % 2 == 1,
             v_flip: attr1 / 0x2000 % 2 == 1,
-            width: size.0,
-            height: size.1,
+            width: size.0 as usize,
+            height: size.1 as usize,
             tile: (attr2 % 0x400) as usize,
             priority: (attr2 / 0x400 % 4) as u8,
             bank: (attr2 / 0x1000) as usize,
@@ -338,8 +304,18 @@ impl ObjAttrs {
         base + tile_size * (x / 8 + row * (y / 8))
     }
 
-    // Whether the sprite is drawn on a line. Most are ruled out before their size is looked up. Sprite tiles start at an even
-    // number, so the lowest bit of the sprite's decides nothing here, whether the reading counts it or not.
+    // Whether a line may be in the sprite's box, by its type and its top. It is asked before a sprite is read with its size:
+    // a constant table is built anew wherever it is read.
+    pub fn is_near(self, reading: Reading, line: usize) -> bool
+        requires { ⌜ Decoded self × (line < 160) ⌝ }
+        ensures { λ r. ⌜ r ≡ isNear reading self line ⌝ }
+    {
+        let objtype = self.objtype;
+        objtype.is_shown() & is_inside(line + Y_BIAS, self.top(reading), BOX_MAX)
+    }
+
+    // Whether the sprite is drawn on a line. Sprite tiles start at an even number, so the lowest bit of the sprite's decides
+    // nothing here, whether the reading counts it or not.
     pub fn is_drawn(
         self,
         reading: Reading,
@@ -352,16 +328,8 @@ impl ObjAttrs {
     {
         let objtype = self.objtype;
         let objmode = self.objmode;
-        let at = line + Y_BIAS;
-        let top = self.top(reading);
-        if !objtype.is_shown() {
-            return false;
-        }
-        if (at < top) | (top + BOX_MAX <= at) {
-            return false;
-        }
-        let on_line = at < top + self.box_height();
+        let on_line = is_inside(line + Y_BIAS, self.top(reading), self.box_height());
         let has_tiles = tiles_start <= OVRAM + TILE_SIZE * self.tile;
-        objmode.is_permitted() & on_line & has_tiles
+        objtype.is_shown() & objmode.is_permitted() & on_line & has_tiles
     }
 }

@@ -15,7 +15,7 @@ use Rattle.regs.specs.Registers.{DISPCNT}
 use Rattle.regs.specs.declared.ObjMapping.the-variants.{TwoDimension}
 use Rattle.regs.specs.declared.reading.Reading.{Reading}
 use Rattle.obj_sprites.specs.Oam.{attributes}
-use Rattle.obj_sprites.specs.Size.{widths, heights, objWidth, objHeight}
+use Rattle.obj_sprites.specs.Size.{objSizes, objSize, objWidth, objHeight}
 use Rattle.obj_sprites.specs.Attrs.{objMode, objType, objAttrs, sprite}
 use Rattle.obj_sprites.specs.Place.{xOf, yOf, boxed, left, top, onLine}
 use Rattle.obj_sprites.specs.Tiles.{tilesStart, ignoresLowestBit, tileNumber, tileBase, tileRow, tileAt, texel}
@@ -56,7 +56,7 @@ half-corner p at r at< r-is r< =
 module _ (p : ℕ) (p≤ : p ≤ 3) where
   -- Each of the 128 is that sprite.
   pub sprite-corner : (n : ℕ) → n < 128 → sprite (cornerSprites p) n ≡ corner p
-  unfolding attributes objAttrs objMode objType objWidth objHeight widths heights
+  unfolding attributes objAttrs objMode objType objWidth objHeight objSize objSizes
   sprite-corner n n< =
       let third-is : half (cornerSprites p) (8 * n + 4) ≡ 0x400 * p
       = half-corner p (8 * n + 4) 4 (omega arith) (omega arith) (omega arith) ∙ omega arith in

@@ -1,9 +1,8 @@
--- obj::render_objs meets its contract: each turn is one sprite's step at every column, and those passed by have none.
+-- obj::render_objs meets its contract: each turn is one sprite's step at every column.
 -- Assumes nothing.
 use Prim.Native.Nat.{_-_}
 use borrow.Author.Needs.{needs}
-use Rattle.obj_sprites.proofs.Drawn.{drawn-onLine}
-use Rattle.obj.proofs.Steps.{SpritesUpTo, sprites-first, sprites-next, sprites-all, source-is}
+use Rattle.obj.proofs.Steps.{SpritesUpTo, sprites-none, sprites-more, sprites-all, source-is}
 use Rattle.obj.proofs.render_objs.Statement.{statement}
 use Rattle.obj.proofs.render_objs.Tie as tie
 
@@ -21,7 +20,7 @@ start c = c .before .before .before .before .before .before
 
 all-put : tie.Need-returns Inv-loop μ-loop
 all-put c =
-    let found = c .before .before .before in
+    let found = c .before .before in
     let read = found .before .before in
     sprites-all _ _ (c .before .loop .inv) (c .loop-test .left) (start read .pre .lengths .entries-is)
     (source-is _ (read .read-dispcnt .ensures) (found .before .obj-mapping .ensures) (found .obj-tiles-start .ensures .0))
@@ -35,12 +34,10 @@ render-objs-spec =
     (search needs)
     (search needs)
     (search needs)
-    (search needs)
-    (λ c. search (needs, sprites-first))
-    (λ c κs. search (needs, drawn-onLine, c .before .before .loop .inv .next))
+    (λ c. search (needs, sprites-none))
     (search needs)
     (search needs)
     (search needs)
-    (λ c. search (needs, sprites-next))
+    (λ c. search (needs, sprites-more))
     (search needs)
     all-put)

@@ -13,7 +13,7 @@ use Rattle.obj_sprites.proofs.attrs.ObjAttrs.from.Tie as tie
 fields : tie.Need-returns
 unfolding objAttrs
 fields c =
-    let size = c .before .before .before in
+    let size = c .before .before .before .before .before in
     let at = size .before .args in
     let width-is : size .from .result .0 ≡ objWidth (bits 15 14 (at .attr1)) (bits 15 14 (at .attr0))
     = size .from .ensures .width-is in
@@ -27,6 +27,8 @@ pub from-spec : {M : Type 1} → statement M
 from-spec =
     tie.close
     (tie.spec
+    (search needs)
+    (search needs)
     (search needs)
     (search needs)
     (search needs)

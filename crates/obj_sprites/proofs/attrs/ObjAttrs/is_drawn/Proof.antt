@@ -1,7 +1,7 @@
--- obj_sprites::attrs::ObjAttrs::is_drawn meets its contract: its tests are those of drawn, and each early one settles it.
+-- obj_sprites::attrs::ObjAttrs::is_drawn meets its contract: its tests are those of drawn.
 -- Assumes nothing.
 use borrow.Author.Needs.{needs}
-use Rattle.obj_sprites.proofs.Drawn.{drawn-hidden, drawn-outside, drawn-is}
+use Rattle.obj_sprites.proofs.Drawn.{drawn-is}
 use Rattle.obj_sprites.proofs.attrs.ObjAttrs.is_drawn.Statement.{statement}
 use Rattle.obj_sprites.proofs.attrs.ObjAttrs.is_drawn.Tie as tie
 
@@ -12,9 +12,6 @@ is-drawn-spec =
     (search needs)
     (search needs)
     (search needs)
-    (λ c. search (needs, drawn-hidden))
-    (search needs)
-    (λ c. search (needs, drawn-outside))
     (search needs)
     (search needs)
     (search needs)
