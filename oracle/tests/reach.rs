@@ -6,6 +6,10 @@ use std::collections::BTreeMap;
 use ashlarkin_oracle::cases::{Case, Cases, Draw, Kind, reset_row};
 use ashlarkin_oracle::*;
 
+#[path = "model/sizes.rs"]
+mod sizes;
+use sizes::SIZES;
+
 const CASES: u64 = 20_000;
 
 /// How often each value of each group was seen.
@@ -111,28 +115,21 @@ fn see_backgrounds(tally: &mut Tally, draw: &Draw) {
     }
 }
 
-/// The sprite's own size, as GBATEK's table has it; shape 3 as document 01 says.
-fn size(shape: u16, size: u16) -> (u32, u32) {
-    let square = 8 << size;
-    let (long, short) = [(16, 8), (32, 8), (32, 16), (64, 32)][size as usize];
-    [(square, square), (long, short), (short, long), (8, 8)][shape as usize]
-}
-
 fn see_sprites(tally: &mut Tally, draw: &Draw) {
     let dispcnt = word(&draw.registers, 0);
     for sprite in draw.oam.chunks_exact(8) {
         let [attr0, attr1, attr2] = [0, 2, 4].map(|at| word(sprite, at));
-        let (kind, shape) = (attr0 >> 8 & 3, attr0 >> 14);
-        let (own_width, own_height) = size(shape, attr1 >> 14);
+        let (kind, shape, size) = (attr0 >> 8 & 3, attr0 >> 14, attr1 >> 14);
+        let (own_width, own_height) = SIZES[usize::from(size)][usize::from(shape)];
         let doubled = if kind == 3 { 2 } else { 1 };
         let (width, height) = (own_width * doubled, own_height * doubled);
-        let (x, y) = (u32::from(attr1 & 511), u32::from(attr0 & 255));
-        let below = (draw.line + 256 - y) % 256;
+        let (x, y) = (i64::from(attr1 & 511), i64::from(attr0 & 255));
+        let below = (i64::from(draw.line) + 256 - y) % 256;
         if kind == 2 || below >= height {
             tally.saw_if(kind == 2, "sprite: type, mode", format!("2 {}", attr0 >> 10 & 3));
             continue;
         }
-        tally.saw("sprite: shape, size", format!("{shape} {}", attr1 >> 14));
+        tally.saw("sprite: shape, size", format!("{shape} {size}"));
         tally.saw("sprite: type, mode", format!("{kind} {}", attr0 >> 10 & 3));
         tally.saw("sprite: format, mapping", format!("{} {}", attr0 >> 13 & 1, dispcnt >> 6 & 1));
         let bits = format!("{} {} {}", attr2 & 1, dispcnt >> 6 & 1, draw.reading);

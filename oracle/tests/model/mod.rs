@@ -7,6 +7,7 @@
 mod backgrounds;
 mod composing;
 mod mutant;
+mod sizes;
 mod sprites;
 mod windows;
 

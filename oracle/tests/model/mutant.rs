@@ -73,6 +73,8 @@ mutants! {
     XNeverNegative: "X of 240 or more is taken as positive.",
     Shape3Square: "Shape 3 is sized as a square by its size.",
     WideAndTallExchanged: "The sizes of wide and tall sprites are exchanged.",
+    WideAndTallOfSize1Exchanged: "The sizes of wide and tall sprites of size 1 are exchanged.",
+    SizeAndShapeExchanged: "Sizes are read by (shape, size).",
     BoxNotDoubled: "The box of a double-size sprite isn't doubled.",
     HiddenSpritesDrawn: "A hidden sprite is drawn as a normal one.",
     ProhibitedModeDrawn: "A sprite of mode 3 is drawn as an ordinary one.",

@@ -1,5 +1,6 @@
 //! Document 01, "Sprites (obj.rs)".
 
+use super::sizes::SIZES;
 use super::{Draw, Entry, Mutant, bit, bits, halfword};
 
 #[derive(Clone, Copy, PartialEq)]
@@ -62,7 +63,7 @@ fn decode(d: &Draw, number: usize) -> Sprite {
     let third = halfword(d.input.oam, 8 * number + 4);
     let kind = [Type::Normal, Type::Affine, Type::Hidden, Type::AffineDouble][bits(first, 8, 2) as usize];
     let mode = [Mode::Ordinary, Mode::SemiTransparent, Mode::Window, Mode::Prohibited][bits(first, 10, 2) as usize];
-    let (width, height) = size(d, bits(second, 14, 2), bits(first, 14, 2));
+    let (width, height) = size(d, bits(second, 14, 2) as usize, bits(first, 14, 2) as usize);
     let doubled = kind == Type::AffineDouble && !d.is(Mutant::BoxNotDoubled);
     let times = if doubled { 2 } else { 1 };
     Sprite {
@@ -94,20 +95,15 @@ fn place_x(d: &Draw, x: i64) -> i64 {
     if positive { x } else { x - 512 }
 }
 
-/// "Sprites": sizes by (size, shape); shape 3 is always 8x8.
-fn size(d: &Draw, size: i64, shape: i64) -> (i64, i64) {
-    const SQUARE: [(i64, i64); 4] = [(8, 8), (16, 16), (32, 32), (64, 64)];
-    const WIDE: [(i64, i64); 4] = [(16, 8), (32, 8), (32, 16), (64, 32)];
-    const TALL: [(i64, i64); 4] = [(8, 16), (8, 32), (16, 32), (32, 64)];
-    let exchanged = d.is(Mutant::WideAndTallExchanged);
+/// "Sprites": sizes by (size, shape).
+fn size(d: &Draw, size: usize, shape: usize) -> (i64, i64) {
+    let exchanged = d.is(Mutant::WideAndTallExchanged) || size == 1 && d.is(Mutant::WideAndTallOfSize1Exchanged);
     match shape {
-        0 => SQUARE[size as usize],
-        1 if !exchanged => WIDE[size as usize],
-        1 => TALL[size as usize],
-        2 if !exchanged => TALL[size as usize],
-        2 => WIDE[size as usize],
-        _ if d.is(Mutant::Shape3Square) => SQUARE[size as usize],
-        _ => (8, 8),
+        _ if d.is(Mutant::SizeAndShapeExchanged) => SIZES[shape][size],
+        1 if exchanged => SIZES[size][2],
+        2 if exchanged => SIZES[size][1],
+        3 if d.is(Mutant::Shape3Square) => SIZES[size][0],
+        _ => SIZES[size][shape],
     }
 }
 
