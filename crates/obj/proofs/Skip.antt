@@ -1,4 +1,4 @@
--- Laws of the columns and the sprites that are passed by. No contract cites this file. Assumes nothing.
+-- Laws of the columns that are passed by. No contract cites this file. Assumes nothing.
 use Prim.Native.Nat.{ℕ, _+_, _-_, _≤_, _<_}
 use native.Mathlib.Nat.{eq-or-lt-of-le}
 use native.Mathlib.Omega.{arith}
