@@ -6,8 +6,12 @@ ghost use Rattle.gpu_step.specs.Step.{StepsTo};
 ghost use Rattle.gpu_draw_records.specs.Draw.{DrawsRecords};
 ghost use Rattle.gpu_records.specs.Step.{StepsRecords};
 ghost use Rattle.explain.specs.Explain.{Explains};
+ghost use Rattle.gpu_bus.specs.Memories.{memoriesOf};
+ghost use Rattle.gpu_bus.specs.Read.{Reads};
+ghost use Rattle.gpu_bus.specs.Store.{Store8, Store16, Stores};
 use bg_points::References;
 use explain::Reason;
+use gpu_bus::Byte;
 use gpu_records::BgAffine;
 use gpu_records::ObjBufferEntry;
 use gpu_step::Steps;
@@ -162,4 +166,50 @@ pub extern "C" fn ashlarkin_explain(
         entries,
         column,
     )
+}
+
+// The byte at an address of pages 5 to 7: its number is 0, or 2 or 9 with value 0.
+#[no_mangle]
+pub extern "C" fn ashlarkin_read8(address: u32, vram: &[u8], palette: &[u8], oam: &[u8]) -> Byte
+    ensures { λ b.
+        ⌜ Reads address (memoriesOf (now (vram .entry)) (now (palette .entry)) (now (oam .entry))) b ⌝ }
+{
+    gpu_bus::read_8(address, vram, palette, oam)
+}
+
+// A byte stored to pages 5 to 7, by the mode in the registers: 0, written or not, or 2 or 9.
+#[no_mangle]
+pub extern "C" fn ashlarkin_store8(
+    address: u32,
+    value: u8,
+    registers: &[u8],
+    vram: &mut [u8],
+    palette: &mut [u8],
+    oam: &mut [u8],
+) -> u32
+    ensures { λ n.
+        ⌜ Stores (Store8 (now (registers .entry)) address value)
+        (memoriesOf (now (vram .entry)) (now (palette .entry)) (now (oam .entry)))
+        n
+        (memoriesOf (now (vram .exit)) (now (palette .exit)) (now (oam .exit))) ⌝ }
+{
+    gpu_bus::write_8(address, value, registers, vram, palette, oam)
+}
+
+// A halfword stored to pages 5 to 7: 0, or 2, 9 or 11.
+#[no_mangle]
+pub extern "C" fn ashlarkin_store16(
+    address: u32,
+    value: u16,
+    vram: &mut [u8],
+    palette: &mut [u8],
+    oam: &mut [u8],
+) -> u32
+    ensures { λ n.
+        ⌜ Stores (Store16 address value)
+        (memoriesOf (now (vram .entry)) (now (palette .entry)) (now (oam .entry)))
+        n
+        (memoriesOf (now (vram .exit)) (now (palette .exit)) (now (oam .exit))) ⌝ }
+{
+    gpu_bus::write_16(address, value, vram, palette, oam)
 }

@@ -1,0 +1,2 @@
+-- Laws of reads and stores. Assumes nothing.
+pub mod BusLaws

@@ -1,0 +1,1 @@
+// Laws of reads and stores. There is no code here; specs/ states them and proofs/ proves them.
