@@ -4,15 +4,17 @@
    include/example.c draws a whole frame.
 
    Every function answers 0 where it did its work, and otherwise one of the numbers below. They are tested in this
-   order, the first that applies is the answer, and a refusal changes no lent byte. The numbers are those of
-   docs/01-scope.md, and 8 is that of docs/02-change-requests.md. The answer is what a function returns;
-   ashlarkin_explain returns a struct whose `number` is the answer, and with a refusal every other field is 0.
+   order, the first that applies is the answer, and a refusal changes no lent byte. A byte store that changes nothing,
+   to OAM or to sprite tiles, is no refusal. The numbers are those of docs/01-scope.md, and from 8 on those of
+   docs/02-change-requests.md, which has no 10. The answer is what a function returns; ashlarkin_explain and
+   ashlarkin_read8 return a struct whose `number` is the answer, and with a refusal every other field is 0.
 
    A buffer is a pointer and then its length in bytes. The length must be that of the memory behind the pointer: any
    length is answered (2 where it isn't the one expected), and nothing is read or written through a buffer of another
    length than the one expected. A pointer may be null only with length 0. A buffer that is written may not overlap
-   another buffer of the same call; those that are only read may overlap each other, so all of ashlarkin_explain's may,
-   which writes none. A row of records is a pointer and then its count of records, and the same holds for it.
+   another buffer of the same call; those that are only read may overlap each other, so all of ashlarkin_explain's and
+   all of ashlarkin_read8's may, which write none. For a store all three memories count as written, whichever it is to.
+   A row of records is a pointer and then its count of records, and the same holds for it.
 
    Nothing is kept between calls and nothing is allocated, so any number of threads may call at once, each with buffers
    of its own where they are written. */
@@ -30,15 +32,18 @@ extern "C" {
 #endif
 
 enum {
-    ASHLARKIN_DRAWN = 0,      /* done: all 240 pixels, the row, or the references are written, or the reason is given */
-    ASHLARKIN_READING = 1,    /* the reading is neither 0 nor 1 */
-    ASHLARKIN_LENGTH = 2,     /* a buffer has another length */
-    ASHLARKIN_LINE = 3,       /* the line is 160 or more */
-    ASHLARKIN_MODE = 4,       /* forced blank off, mode 6 or 7 */
-    ASHLARKIN_BRIGHTNESS = 5, /* forced blank off, reading R, low five bits of BLDY above 16 */
-    ASHLARKIN_REFERENCE = 6,  /* forced blank off, a reference outside -2^28 .. 2^28 - 1 */
-    ASHLARKIN_ENTRY = 7,      /* forced blank off, an entry not well shaped */
-    ASHLARKIN_COLUMN = 8      /* the column is 240 or more */
+    ASHLARKIN_DRAWN = 0,       /* done: all 240 pixels, the row, or the references are written, the reason or the byte is
+                                  given, the store is done or is one that changes nothing */
+    ASHLARKIN_READING = 1,     /* the reading is neither 0 nor 1 */
+    ASHLARKIN_LENGTH = 2,      /* a buffer has another length */
+    ASHLARKIN_LINE = 3,        /* the line is 160 or more */
+    ASHLARKIN_MODE = 4,        /* forced blank off, mode 6 or 7 */
+    ASHLARKIN_BRIGHTNESS = 5,  /* forced blank off, reading R, low five bits of BLDY above 16 */
+    ASHLARKIN_REFERENCE = 6,   /* forced blank off, a reference outside -2^28 .. 2^28 - 1 */
+    ASHLARKIN_ENTRY = 7,       /* forced blank off, an entry not well shaped */
+    ASHLARKIN_COLUMN = 8,      /* the column is 240 or more */
+    ASHLARKIN_PAGE = 9,        /* the address lies on another page than 5, 6 and 7 */
+    ASHLARKIN_ODD_ADDRESS = 11 /* a halfword store at an odd address of page 6 */
 };
 
 enum {
@@ -118,6 +123,12 @@ struct ashlarkin_reason {
     uint32_t pixel;                       /* the colour that follows, 0x00RRGGBB */
 };
 
+/* A byte that was read. */
+struct ashlarkin_byte {
+    uint32_t number; /* 0, or the refusal; then the value is 0 */
+    uint32_t value;  /* 0 to 255 */
+};
+
 /* Draws one line, 0 to 159, and puts the line's sprites into the entries.
 
    x2, y2, x3, y3 are the running reference points of backgrounds 2 and 3; those in the registers aren't read. Each line
@@ -155,6 +166,25 @@ struct ashlarkin_reason ashlarkin_explain(uint32_t reading, uint32_t line, int32
     int32_t y3, const uint8_t *vram, size_t vram_len, const uint8_t *palette, size_t palette_len, const uint8_t *oam,
     size_t oam_len, const uint8_t *registers, size_t registers_len, const uint8_t *entries, size_t entries_len,
     uint32_t column);
+
+/* Memory by address, as the bus has it. The top eight bits of an address are its page: 5 is the palette, 6 video
+   memory, 7 OAM, and any other gives 9. The palette and OAM repeat every 1,024 bytes; an offset into video memory is
+   taken modulo 0x20000, and one from 0x18000 on loses 0x8000. All lent lengths are judged, whichever page it is. */
+
+/* The byte at an address. Numbers 0, 2, 9. */
+struct ashlarkin_byte ashlarkin_read8(uint32_t address, const uint8_t *vram, size_t vram_len, const uint8_t *palette,
+    size_t palette_len, const uint8_t *oam, size_t oam_len);
+
+/* Stores a byte: it fills both halves of its halfword in the palette and in background memory, and changes nothing in
+   OAM and sprite tiles. These start at 0x14000 if the registers' mode is 3 to 7, and else at 0x10000; what counts is
+   where the byte would be written, so that in mode 3 one at 0x06018000 is written at 0x10000. Returns 0, 2 or 9. */
+uint32_t ashlarkin_store8(uint32_t address, uint8_t value, const uint8_t *registers, size_t registers_len,
+    uint8_t *vram, size_t vram_len, uint8_t *palette, size_t palette_len, uint8_t *oam, size_t oam_len);
+
+/* Stores a halfword, little-endian, to OAM and sprite tiles, too. On pages 5 and 7 bit 0 of the address is cleared; on
+   page 6 an odd address gives 11. Returns 0, 2, 9 or 11. */
+uint32_t ashlarkin_store16(uint32_t address, uint16_t value, uint8_t *vram, size_t vram_len, uint8_t *palette,
+    size_t palette_len, uint8_t *oam, size_t oam_len);
 
 #ifdef __cplusplus
 }

@@ -11,6 +11,7 @@ use flate2::Crc;
 use flate2::bufread::ZlibDecoder;
 
 use crate::exit::Refused;
+use crate::output::Staged;
 
 /// Video memory as the hardware has it; the Rust's memory above it stays 0.
 const VRAM_USED: usize = 0x18000;
@@ -33,8 +34,8 @@ const STATE_VRAM: usize = 0x1000;
 const PNG_SIGNATURE: &[u8; 8] = b"\x89PNG\r\n\x1a\n";
 const STATE_CHUNK: &[u8; 4] = b"gbAs";
 
-/// Far above any capture's length, so that a wrong path can't fill the memory.
-const FILE_MAX: usize = 0x100_0000;
+/// Far above any capture's length, so that a wrong path can't fill the memory. A text of stores is held to it, too.
+pub const FILE_MAX: usize = 0x100_0000;
 
 const A_CAPTURE: &str = "a folder with vram.bin, palette.bin, oam.bin and registers.bin, or an mGBA save state";
 
@@ -65,6 +66,30 @@ impl Capture {
         }
         split(&inflate(find_state(bytes)?.context(NO_STATE)?)?)
     }
+
+    /// Empty memory, for who fills it.
+    pub fn zeros(registers: Vec<u8>) -> Capture {
+        Capture { vram: vec![0; VRAM_LEN], palette: vec![0; PALETTE_LEN], oam: vec![0; OAM_LEN], registers }
+    }
+
+    /// Writes the four files to a folder that exists. None is replaced before all four are whole beside their places.
+    pub fn write(&self, folder: &Path, way_out: &str) -> Result<()> {
+        let bytes = [&self.vram, &self.palette, &self.oam, &self.registers];
+        let staged = PARTS.iter().zip(bytes).map(|(name, bytes)| {
+            let path = folder.join(name);
+            let staged = Staged::new(&path, bytes, way_out).with_context(|| path.display().to_string())?;
+            Ok((path, staged))
+        });
+        for (path, staged) in staged.collect::<Result<Vec<_>>>()? {
+            staged.put(way_out).with_context(|| path.display().to_string())?;
+        }
+        Ok(())
+    }
+}
+
+/// The registers alone, by a path of their own.
+pub fn read_registers(path: &Path) -> Result<Vec<u8>> {
+    read_exactly(path, REGISTERS.1, "give --registers the registers.bin of a capture")
 }
 
 /// The files that a capture is read from, those that exist, without links.
@@ -100,12 +125,17 @@ pub fn named_as_state(path: &Path) -> bool {
 
 /// A whole file, or one byte more than any capture has.
 pub fn read_file(path: &Path) -> io::Result<Vec<u8>> {
+    read_bounded(File::open(path)?)
+}
+
+/// All that there is to read, or one byte more than [`FILE_MAX`].
+pub fn read_bounded(from: impl Read) -> io::Result<Vec<u8>> {
     let mut bytes = Vec::new();
-    File::open(path)?.take(FILE_MAX as u64 + 1).read_to_end(&mut bytes)?;
+    from.take(FILE_MAX as u64 + 1).read_to_end(&mut bytes)?;
     Ok(bytes)
 }
 
-fn unreadable(error: io::Error, expected: &str, way_out: &str) -> anyhow::Error {
+pub fn unreadable(error: io::Error, expected: &str, way_out: &str) -> anyhow::Error {
     anyhow!("can't be read: {error}, expected {expected}; {way_out}")
 }
 
@@ -132,18 +162,28 @@ fn read_folder(folder: &Path) -> Result<Capture> {
 
 fn read_part(folder: &Path, (name, lengths): (&str, &[usize])) -> Result<Vec<u8>> {
     let path = folder.join(name);
-    let named = || path.display().to_string();
-    let expected = lengths.iter().map(usize::to_string).collect::<Vec<_>>().join(" or ");
     // A pipe would be waited for.
     let special = fs::metadata(&path).is_ok_and(|found| !found.is_file() && !found.is_dir());
+    let expected = listed(lengths);
     ensure!(!special, "{}: not a file, expected one of {expected} bytes; the folder needs this file", path.display());
-    let bytes = read_file(&path)
-        .map_err(|error| unreadable(error, &format!("{expected} bytes"), "the folder needs this file"))
+    read_exactly(&path, lengths, "the folder needs this file")
+}
+
+/// A file of one of these lengths.
+fn read_exactly(path: &Path, lengths: &[usize], way_out: &str) -> Result<Vec<u8>> {
+    let named = || path.display().to_string();
+    let expected = listed(lengths);
+    let bytes = read_file(path)
+        .map_err(|error| unreadable(error, &format!("{expected} bytes"), way_out))
         .with_context(named)?;
     if !lengths.contains(&bytes.len()) {
         return Err(wrong_length(bytes.len(), &expected)).with_context(named);
     }
     Ok(bytes)
+}
+
+fn listed(lengths: &[usize]) -> String {
+    lengths.iter().map(usize::to_string).collect::<Vec<_>>().join(" or ")
 }
 
 fn wrong_length(found: usize, expected: &str) -> anyhow::Error {

@@ -10,7 +10,7 @@ use crate::compare::{self, Flip, Plan, Planted, Readings, WrongRule};
 use crate::exit::Exit;
 use crate::explain::{self, Asked, Place};
 use crate::frame::{self, Reading, Style};
-use crate::{batch, bench};
+use crate::{batch, bench, build};
 
 const EXAMPLES: &str = "\
 Examples:
@@ -18,6 +18,7 @@ Examples:
   ashlarkin frame samples/scene/capture.state.png -o frame.png --reading H --scale 4
   ashlarkin batch caps -o frames
   ashlarkin explain samples/scene/capture.ss0 --at 120,80
+  ashlarkin build samples/stores/caption.stores --registers samples/stores/caption.registers -o caption
   ashlarkin compare --cases 100000
   ashlarkin bench
 
@@ -47,6 +48,20 @@ Examples:
   ashlarkin explain game.ss0 --line 80 --reading H | grep '\"sprite blend\"'
 
 Exit status: 0 explained, 1 refused or unreadable, 2 bad usage.";
+
+const BUILD_EXAMPLES: &str = "\
+Examples:
+  ashlarkin build title.stores --registers caps/07/registers.bin -o caps/08
+  ashlarkin build - --registers registers.bin -o caps/08 < title.stores
+  ashlarkin frame caps/08 -o frame.png            what was built, drawn
+
+A text of stores:
+  # width, address, value
+  16 0x05000000  0x7c00    # the backdrop is blue
+  8  0x0600_0020 0x11      # fills both halves of its halfword: four pixels of tile 1
+  16 0x07000002  40        # sprite 0 stands at column 40
+
+Exit status: 0 built, 1 refused or unreadable (nothing is written), 2 bad usage.";
 
 const COMPARE_EXAMPLES: &str = "\
 Examples:
@@ -83,6 +98,9 @@ enum Command {
     /// Say why a pixel of a capture's frame has its colour
     #[command(after_help = EXPLAIN_EXAMPLES)]
     Explain(ExplainArgs),
+    /// Build a capture from a text of stores
+    #[command(after_help = BUILD_EXAMPLES)]
+    Build(BuildArgs),
     /// Compare the proved library with the emulator's Rust on generated cases
     #[command(after_help = COMPARE_EXAMPLES)]
     Compare(CompareArgs),
@@ -199,11 +217,36 @@ struct ExplainArgs {
 }
 
 #[derive(Args)]
+struct BuildArgs {
+    /// A text of stores, one a line: width, address and value; - reads standard input
+    ///
+    /// The width is 8 or 16. Address and value are in hex after 0x or in decimal, and _ may stand between digits. A #
+    /// begins a comment. Memory starts as zeros. Example: title.stores, with lines such as 16 0x0600_0000 0x1234
+    #[arg(value_name = "STORES")]
+    stores: PathBuf,
+
+    /// The registers, 86 bytes, such as registers.bin of a capture
+    ///
+    /// They are copied as they are. Their mode says where sprite tiles start, to which bytes aren't stored. Example:
+    /// --registers caps/07/registers.bin
+    #[arg(long, value_name = "FILE")]
+    registers: PathBuf,
+
+    /// The folder to write the capture to, made where it is missing
+    ///
+    /// Its vram.bin, palette.bin, oam.bin and registers.bin are replaced, but only if every store was done. Example:
+    /// -o caps/08
+    #[arg(short, long, value_name = "FOLDER")]
+    output: PathBuf,
+}
+
+#[derive(Args)]
 struct CompareArgs {
     /// How many cases to compare
     ///
     /// Each is one to six draws, a line-end step and a reset of a row; draws and step are done over records, too. In
-    /// every 9th the library says why each column has its colour. Example: --cases 1000000
+    /// every 9th the library says why each column has its colour, and every 47th has 32 reads and stores on the bus, too.
+    /// Example: --cases 1000000
     #[arg(long, value_name = "N", default_value = "10000", value_parser = value_parser!(u64).range(1..))]
     cases: u64,
 
@@ -235,7 +278,7 @@ struct CompareArgs {
     #[arg(long, value_name = "WHAT@CASE", hide = true, value_parser = Flip::parse)]
     flip_for_test: Option<Flip>,
 
-    /// Make the library wrong about the lowest bit of tile numbers, so that a test sees that told
+    /// Make the library wrong about the lowest bit of tile numbers or about the bus, so that a test sees that told
     #[arg(long, value_name = "RULE", hide = true, value_enum)]
     wrong_for_test: Option<WrongRule>,
 }
@@ -274,6 +317,7 @@ impl Cli {
             Command::Frame(args) => frame::run(&args.capture, &args.output, args.style.style()),
             Command::Batch(args) => args.run(),
             Command::Explain(args) => args.run(),
+            Command::Build(args) => build::run(&args.stores, &args.registers, &args.output),
             Command::Compare(args) => args.run(),
             Command::Bench(args) => args.run(),
         }

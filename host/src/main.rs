@@ -2,6 +2,7 @@
 
 mod batch;
 mod bench;
+mod build;
 mod capture;
 mod cli;
 mod compare;

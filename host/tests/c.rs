@@ -98,6 +98,11 @@ fn the_header_is_cpp_too() {
                 row, 1, nullptr, 0);\n\
             ashlarkin_reason reason = ashlarkin_explain(0, 0, 0, 0, 0, 0, nullptr, 0, nullptr, 0, nullptr, 0,\n\
                 nullptr, 0, nullptr, 0, 0);\n\
+            ashlarkin_byte byte = ashlarkin_read8(0, nullptr, 0, nullptr, 0, nullptr, 0);\n\
+            uint32_t stored8 = ashlarkin_store8(0, 0, nullptr, 0, nullptr, 0, nullptr, 0, nullptr, 0);\n\
+            uint32_t stored16 = ashlarkin_store16(0, 0, nullptr, 0, nullptr, 0, nullptr, 0);\n\
+            if (byte.number != 2 || stored8 != 2 || stored16 != 2)\n\
+                return 1;\n\
             uint32_t stepped = ashlarkin_step_records(&bg2, &bg3);\n\
             return int(reason.number * 100 + ashlarkin_reset(nullptr, 0) * 10 + drawn + stepped);\n\
         }\n";

@@ -46,6 +46,7 @@ fn library_and_oracle_agree() {
     assert!((1..=7).all(|number| by_number.contains(&format!(", {number} "))), "{by_number}");
     assert!(by_number.contains("; steps on records: 0 ") && by_number.ends_with(" times"), "{by_number}");
     explained_all_over(&lines);
+    called_all_over(&lines);
     assert!(names(&folder).is_empty());
 }
 
@@ -59,6 +60,23 @@ fn explained_all_over(lines: &[String]) {
         by_name.split([',', ';']).map(|part| part.split(' ').next_back().unwrap().parse().unwrap()).collect();
     assert!(counts.len() == 10 && counts.iter().all(|count| *count > 0), "{by_name}");
     assert_eq!(counts[..5].iter().sum::<u64>(), counts[5..].iter().sum::<u64>(), "{by_name}");
+}
+
+/// Every 47th case has 32 calls on the bus: every number of each routine is among them.
+fn called_all_over(lines: &[String]) {
+    let all: u64 = 43 * 32;
+    assert!(lines.contains(&format!("{all} calls on the bus")), "{lines:?}");
+    let mut calls = 0;
+    for (name, numbers) in [("reads", &[0, 2, 9][..]), ("byte stores", &[0, 2, 9]), ("halfword stores", &[0, 2, 9, 11])]
+    {
+        let start = format!("{name} by number: ");
+        let by_number = lines.iter().find_map(|line| line.strip_prefix(&start)).unwrap();
+        let counts: Vec<u64> = by_number.split_whitespace().filter_map(|word| word.parse().ok()).collect();
+        let (given, times): (Vec<u64>, Vec<u64>) = counts.chunks_exact(2).map(|pair| (pair[0], pair[1])).unzip();
+        assert_eq!(given, numbers, "{by_number}");
+        calls += times.iter().sum::<u64>();
+    }
+    assert_eq!(calls, all);
 }
 
 #[test]
@@ -115,28 +133,45 @@ fn a_difference_is_found_kept_and_replayed() {
         // Forced blank doesn't let such a column pass.
         ("refusal@27", "reasons 0", "column 4294967295: Err(Length) and Err(Column)"),
     ] {
-        let case = flip.split('@').nth(1).unwrap();
-        let run = compare(&folder, &["--cases", "300", "--seed", "1", "--keep", "kept.json", "--flip-for-test", flip]);
-        let place = format!("seed 1, case {case}, {call}");
-        let text = stderr(&run);
-        assert_eq!(
-            (run.status.code(), stdout(&run), text.lines().count()),
-            (Some(1), "seed 1, 300 cases\n", 1),
-            "{flip}"
-        );
-        assert!(text.starts_with(&place) && text.contains(words), "{flip}: {text}");
-        assert!(text.contains("ashlarkin compare --replay kept.json"), "{text}");
-
-        let again = compare(&folder, &["--replay", "kept.json", "--flip-for-test", flip]);
-        let found = stderr(&again);
-        assert!(again.status.code() == Some(1) && found.starts_with(&format!("kept.json: {place}")), "{flip}: {found}");
-        assert!(found.contains(words) && stdout(&again).contains("another answer or other bytes"), "{flip}: {found}");
-
-        // It was the flip alone.
-        let same = compare(&folder, &["--replay", "kept.json"]);
-        assert_eq!((same.status.code(), stderr(&same)), (Some(0), ""));
-        assert!(stdout(&same).ends_with(&format!("case {case}: no difference\n")), "{}", stdout(&same));
+        check_flip(&folder, flip, call, words);
     }
+}
+
+/// Of the last call of a case on the bus: its number, the byte that it reads, and what it leaves.
+#[test]
+fn a_difference_on_the_bus_is_found_kept_and_replayed() {
+    let folder = scratch("compare/bus");
+    for (flip, call, words) in [
+        ("bus-number@94", "bus call 31 (store16 0x07", "answer 8 and 0"),
+        ("bus-value@141", "bus call 31 (read8 0x06", "value 0x"),
+        ("bus-vram@47", "bus call 31 (store8 0x06", "vram byte 0x1ffff 0x5b and 0x5a"),
+        // It stores to that byte, too.
+        ("bus-palette@235", "bus call 31 (store8 0x05fffffe 0x4f)", "palette byte 0x3ff 0x4e and 0x4f"),
+        ("bus-oam@188", "bus call 31 (read8 0x07", "oam byte 0x3ff 0x5b and 0x5a"),
+    ] {
+        check_flip(&folder, flip, call, words);
+    }
+}
+
+/// Runs with one answer changed: that is found at the call and in the words named, and is the only difference.
+fn check_flip(folder: &Path, flip: &str, call: &str, words: &str) {
+    let case = flip.split('@').nth(1).unwrap();
+    let run = compare(folder, &["--cases", "300", "--seed", "1", "--keep", "kept.json", "--flip-for-test", flip]);
+    let place = format!("seed 1, case {case}, {call}");
+    let text = stderr(&run);
+    assert_eq!((run.status.code(), stdout(&run), text.lines().count()), (Some(1), "seed 1, 300 cases\n", 1), "{flip}");
+    assert!(text.starts_with(&place) && text.contains(words), "{flip}: {text}");
+    assert!(text.contains("ashlarkin compare --replay kept.json"), "{text}");
+
+    let again = compare(folder, &["--replay", "kept.json", "--flip-for-test", flip]);
+    let found = stderr(&again);
+    assert!(again.status.code() == Some(1) && found.starts_with(&format!("kept.json: {place}")), "{flip}: {found}");
+    assert!(found.contains(words) && stdout(&again).contains("another answer or other bytes"), "{flip}: {found}");
+
+    // It was the flip alone.
+    let same = compare(folder, &["--replay", "kept.json"]);
+    assert_eq!((same.status.code(), stderr(&same)), (Some(0), ""));
+    assert!(stdout(&same).ends_with(&format!("case {case}: no difference\n")), "{}", stdout(&same));
 }
 
 /// The lowest bit of tile numbers: a library that keeps or drops it wrongly is told from the oracle, by draws under the
@@ -160,6 +195,33 @@ fn wrong_rules_for_tile_numbers_are_found() {
 
         let again = compare(&folder, &["--replay", "kept.json", "--wrong-for-test", rule]);
         assert_eq!(again.status.code(), Some(1), "{rule}");
+        let same = compare(&folder, &["--replay", "kept.json"]);
+        assert_eq!((same.status.code(), stderr(&same)), (Some(0), ""), "{rule}");
+    }
+}
+
+/// A library that is wrong about the bus is told from the oracle: by the call that shows it, and what that leaves or answers.
+#[test]
+fn wrong_rules_for_the_bus_are_found() {
+    let folder = scratch("compare/wrong-bus");
+    for (rule, call, words) in [
+        ("one-half-filled", "(store8 0x06847ffc ", ": vram byte 0x7ffd 0x"),
+        ("upper-video-stays", "(store16 0x0603c002 ", ": vram byte 0x1c002 0x"),
+        ("oam-takes-bytes", "(store8 0x07", ": oam byte 0x"),
+        ("modes-6-and-7-are-text", "(store8 0x06", ": vram byte 0x1"),
+        ("odd-palette-refused", "(store16 0x05", ": answer 11 and 0, palette byte 0x"),
+        ("odd-oam-kept", "(store16 0x07", ": oam byte 0x"),
+    ] {
+        let options = ["--cases", "300", "--seed", "1", "--wrong-for-test", rule, "--keep", "kept.json"];
+        let found = compare(&folder, &options);
+        let text = stderr(&found);
+        assert!(found.status.code() == Some(1) && text.contains(", bus call "), "{rule}: {text}");
+        assert!(text.contains(call) && text.contains(words), "{rule}: {text}");
+
+        let again = compare(&folder, &["--replay", "kept.json", "--wrong-for-test", rule]);
+        let (difference, _) = text.split_once("; kept: ").unwrap();
+        assert_eq!((again.status.code(), stderr(&again)), (Some(1), &*format!("kept.json: {difference}\n")), "{rule}");
+        // It was the rule alone.
         let same = compare(&folder, &["--replay", "kept.json"]);
         assert_eq!((same.status.code(), stderr(&same)), (Some(0), ""), "{rule}");
     }

@@ -1,5 +1,6 @@
-//! Document 01's refusals, in its order: what the Rust itself never judges.
+//! The refusals of documents 01 and 02, in their order: what the Rust itself never judges.
 
+use crate::bus::{Access, Memories};
 use crate::input::*;
 
 /// References that a draw and a step accept: -2^28 to 2^28 - 1.
@@ -58,6 +59,28 @@ pub fn judge_draw(input: &Input, entries: &[u8], output: &[u8]) -> u32 {
     }
     if !entries.chunks_exact(4).all(well_shaped) {
         return 7;
+    }
+    0
+}
+
+/// Document 02, W-205: the number of the first refusal of a read or a store that applies, or 0. Registers are lent to byte
+/// stores alone.
+pub fn judge_access(access: Access, addr: u32, registers: &[u8], memories: &Memories) -> u32 {
+    let lengths = [
+        (memories.vram.len(), VRAM_LEN),
+        (memories.palette.len(), PALETTE_LEN),
+        (memories.oam.len(), OAM_LEN),
+        (if let Access::Store8(_) = access { registers.len() } else { REGISTERS_LEN }, REGISTERS_LEN),
+    ];
+    if lengths.iter().any(|(found, expected)| found != expected) {
+        return 2;
+    }
+    let page = addr >> 24;
+    if !(5..=7).contains(&page) {
+        return 9;
+    }
+    if page == 6 && matches!(access, Access::Store16(_)) && addr & 1 == 1 {
+        return 11;
     }
     0
 }

@@ -58,9 +58,9 @@ mod input;
 mod judge;
 pub mod reasons;
 
-pub use bus::Bus;
+pub use bus::{Access, Bus, Memories};
 pub use draw::{Answer, ONE_DIMENSIONAL, Oracle, has_256_colours, make_tiles_even};
 pub use events::{Clock, EventKind, Tick};
 pub use exports::{PANICKED, reset, step};
 pub use input::*;
-pub use judge::{judge_draw, well_shaped};
+pub use judge::{judge_access, judge_draw, well_shaped};

@@ -6,6 +6,8 @@ use std::collections::BTreeMap;
 use ashlarkin_oracle::cases::{Case, Cases, Draw, Kind, reset_row};
 use ashlarkin_oracle::*;
 
+#[path = "reach/bus.rs"]
+mod bus;
 #[path = "model/sizes.rs"]
 mod sizes;
 use sizes::SIZES;
@@ -17,7 +19,7 @@ const CASES: u64 = 20_000;
 struct Tally(BTreeMap<&'static str, BTreeMap<String, u64>>);
 
 impl Tally {
-    /// A value that must be reached.
+    /// Values that must be reached.
     fn expect(&mut self, group: &'static str, values: impl IntoIterator<Item = impl ToString>) {
         let seen = self.0.entry(group).or_default();
         values.into_iter().for_each(|value| _ = seen.insert(value.to_string(), 0));
@@ -31,6 +33,16 @@ impl Tally {
     fn saw_if(&mut self, holds: bool, group: &'static str, value: impl ToString) {
         if holds {
             self.saw(group, value);
+        }
+    }
+
+    /// Prints the least seen of each group, which must have been seen.
+    fn check(&self) {
+        println!("| what | values | least seen | times |\n|---|---|---|---|");
+        for (group, seen) in &self.0 {
+            let (value, count) = seen.iter().min_by_key(|(_, count)| **count).expect("a group has values");
+            println!("| {group} | {} | {value} | {count} |", seen.len());
+            assert!(*count > 0, "{group}: {value} is never reached");
         }
     }
 }
@@ -257,12 +269,7 @@ fn every_feature_is_reached() {
     let mut tally = expected();
     let mut cases = Cases::new(1);
     (0..CASES).for_each(|index| see(&mut tally, &cases.case(index)));
-    println!("| what | values | least seen | times |\n|---|---|---|---|");
-    for (group, seen) in &tally.0 {
-        let (value, count) = seen.iter().min_by_key(|(_, count)| **count).expect("a group has values");
-        println!("| {group} | {} | {value} | {count} |", seen.len());
-        assert!(*count > 0, "{group}: {value} is never reached");
-    }
+    tally.check();
 }
 
 /// A case's number is enough to make it again, alone or after others.

@@ -1,16 +1,17 @@
 //! A second opinion on the oracle's glue: a plain model, typed from document 01 alone, gives what the oracle gives on
-//! generated draws; and each of its mutants, an error that looks right, is told from the oracle within 5,000 cases.
+//! generated draws, and one typed from document 02 on generated calls on the bus; and each of their mutants, an error that
+//! looks right, is told from the oracle within 5,000 cases.
 //!
 //!     cargo test --release -p ashlarkin-oracle --test second_opinion -- [--cases N] [--seed S]
 
 use std::process::ExitCode;
 use std::time::Instant;
 
-use ashlarkin_oracle::cases::{Alone, Case, Cases, Kind, Loaded, reset_row, step};
+use ashlarkin_oracle::cases::{Alone, BusCase, Called, Case, Cases, Kind, Loaded, reset_row, step};
 use ashlarkin_oracle::{Answer, OUTPUT_LEN, Oracle};
 
 mod model;
-use model::Mutant;
+use model::{BusMutant, Mutant};
 
 /// Each mutant must be caught within this many cases.
 const MUTANT_CASES: u64 = 5_000;
@@ -135,6 +136,41 @@ fn compare_small(seed: u64, count: u64) -> bool {
     true
 }
 
+fn bus_by_oracle(oracle: &mut Oracle, case: &BusCase) -> Vec<Called> {
+    case.run(|call, registers, memories| oracle.access(call.access, call.address, registers, memories))
+}
+
+fn bus_by_model(mutant: Option<BusMutant>, case: &BusCase) -> Vec<Called> {
+    case.run(|call, registers, memories| {
+        let (number, value) = model::bus::access(mutant, call.access, call.address, registers, memories);
+        (Answer::Number(number), value)
+    })
+}
+
+/// Compares reads and stores, and after each every byte of the memories.
+fn compare_bus(seed: u64, count: u64) -> bool {
+    let (mut cases, mut oracle) = (Cases::new(seed), Oracle::new());
+    let (mut calls, mut numbers) = (0, [0u64; 12]);
+    for index in 0..count {
+        let case = cases.bus(index);
+        let (expected, given) = (bus_by_oracle(&mut oracle, &case), bus_by_model(None, &case));
+        if let Some(at) = expected.iter().zip(&given).position(|(oracle, model)| oracle != model) {
+            println!(
+                "seed {seed} bus case {index}, call {at}, {}: {:?}, {:?}",
+                case.calls[at], expected[at], given[at]
+            );
+            return false;
+        }
+        for called in &expected {
+            let Answer::Number(number) = called.answer else { unreachable!("the model gives numbers") };
+            numbers[number as usize] += 1;
+        }
+        calls += expected.len();
+    }
+    println!("{calls} calls on the bus with seed {seed}: no difference; by number 0 to 11: {numbers:?}");
+    true
+}
+
 /// How many draws a second the oracle's side of a differential run makes, generation included.
 fn speed(seed: u64, count: u64) {
     let (mut cases, mut oracle) = (Cases::new(seed), Loaded::default());
@@ -179,6 +215,31 @@ fn mutants() -> bool {
     left.is_empty()
 }
 
+/// Whether every mutant of the bus is told from the oracle.
+fn bus_mutants() -> bool {
+    let (mut cases, mut oracle) = (Cases::new(MUTANT_SEED), Oracle::new());
+    let mut left: Vec<BusMutant> = BusMutant::ALL.to_vec();
+    let mut latest = (0, None);
+    for index in 0..MUTANT_CASES {
+        let case = cases.bus(index);
+        let expected = bus_by_oracle(&mut oracle, &case);
+        left.retain(|mutant| {
+            let same = bus_by_model(Some(*mutant), &case) == expected;
+            if !same {
+                latest = (index, Some(*mutant));
+            }
+            same
+        });
+        if left.is_empty() {
+            break;
+        }
+    }
+    let (all, (index, last)) = (BusMutant::ALL.len(), latest);
+    println!("{} of {all} mutants of the bus caught; the last, {last:?}, at case {index}", all - left.len());
+    left.iter().for_each(|mutant| println!("not caught: {mutant:?}: {}", mutant.says()));
+    left.is_empty()
+}
+
 /// The seed and the count of cases, or the words that say neither.
 fn options(words: &[String]) -> Result<(u64, u64), String> {
     let (mut seed, mut count) = (1, 100_000);
@@ -214,6 +275,7 @@ fn main() -> ExitCode {
         }
     };
     let same = compare(seed, count) && compare_alone(seed, count / 5) && compare_small(seed, count);
+    let same = same && compare_bus(seed, count.div_ceil(20));
     speed(seed, count.min(20_000));
-    if same && mutants() { ExitCode::SUCCESS } else { ExitCode::FAILURE }
+    if same && mutants() && bus_mutants() { ExitCode::SUCCESS } else { ExitCode::FAILURE }
 }

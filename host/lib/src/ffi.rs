@@ -1,5 +1,6 @@
 //! The proved library's functions as C sees them (`include/ashlarkin.h`). A slice is a pointer and then a length.
 
+use crate::bus::Byte;
 use crate::explain::Numbers;
 use crate::records::{BgAffine, ObjBufferEntry};
 
@@ -66,4 +67,35 @@ unsafe extern "C" {
         entries_len: usize,
         column: u32,
     ) -> Numbers;
+    pub fn ashlarkin_read8(
+        address: u32,
+        vram: *const u8,
+        vram_len: usize,
+        palette: *const u8,
+        palette_len: usize,
+        oam: *const u8,
+        oam_len: usize,
+    ) -> Byte;
+    pub fn ashlarkin_store8(
+        address: u32,
+        value: u8,
+        registers: *const u8,
+        registers_len: usize,
+        vram: *mut u8,
+        vram_len: usize,
+        palette: *mut u8,
+        palette_len: usize,
+        oam: *mut u8,
+        oam_len: usize,
+    ) -> u32;
+    pub fn ashlarkin_store16(
+        address: u32,
+        value: u16,
+        vram: *mut u8,
+        vram_len: usize,
+        palette: *mut u8,
+        palette_len: usize,
+        oam: *mut u8,
+        oam_len: usize,
+    ) -> u32;
 }

@@ -1,5 +1,5 @@
 //! Ashlarkin draws lines of the Game Boy Advance's picture from captured video memory. The drawing is the proved
-//! library `libashlarkin.a`; this crate makes its six functions safe to call.
+//! library `libashlarkin.a`; this crate makes its nine functions safe to call.
 //!
 //! A draw takes memory and registers as bytes and a row of 240 object entries, and writes 240 pixels. Whatever it is
 //! given, it draws the whole line, or gives a [`Refusal`] and changes no byte.
@@ -36,17 +36,20 @@
 //!
 //! [`explain`] says why a column has its colour: the window that it lies in, its two layers, and what was done with
 //! them. [`draw_records`] and [`step_records`] are draw and step over the emulator's records, [`ObjBufferEntry`] and
-//! [`BgAffine`].
+//! [`BgAffine`]. [`read8`], [`store8`] and [`store16`] are the bus: memory read and changed by address, for who builds a
+//! capture by replaying stores.
 //!
 //! Nothing is kept between calls, so that threads may draw at the same time.
 
 #![warn(missing_docs)]
 
+mod bus;
 mod explain;
 mod ffi;
 mod records;
 mod refusal;
 
+pub use bus::{Memories, read8, store8, store16};
 pub use explain::{Effect, Layer, Reason, Region, Shown, explain};
 pub use records::{BgAffine, ObjBufferEntry, draw_records, step_records};
 pub use refusal::Refusal;

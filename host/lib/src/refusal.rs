@@ -3,7 +3,8 @@
 use std::error::Error;
 use std::fmt;
 
-/// Why nothing was drawn. The table of document 01 is tested in its order, and the first that applies is given.
+/// Why nothing was done. The table of document 01 is tested in its order, and so are document 02's after it; the first
+/// that applies is given.
 #[derive(Clone, Copy, Debug, PartialEq, Eq, Hash)]
 pub enum Refusal {
     /// 1: the reading is neither 0 nor 1.
@@ -22,13 +23,17 @@ pub enum Refusal {
     Entry,
     /// 8: the column is 240 or more.
     Column,
+    /// 9: the address lies on another page than 5, 6 and 7.
+    Page,
+    /// 11: a halfword store at an odd address of page 6.
+    OddAddress,
     /// A number that neither document gives. The proved library gives none.
     Unknown(u32),
 }
 
-/// Document 01, "Numbers a draw may return", word for word, and then document 02's; the first row is number 1.
+/// Document 01, "Numbers a draw may return", word for word, and then document 02's.
 #[rustfmt::skip]
-const TABLE: [(Refusal, &str); 8] = [
+const TABLE: [(Refusal, &str); 10] = [
     (Refusal::Reading, "reading is neither 0 nor 1"),
     (Refusal::Length, "a buffer has another length"),
     (Refusal::Line, "line 160 or more"),
@@ -37,6 +42,8 @@ const TABLE: [(Refusal, &str); 8] = [
     (Refusal::Reference, "forced blank off, a reference number outside -2^28 .. 2^28 - 1"),
     (Refusal::Entry, "forced blank off, an entry not well shaped"),
     (Refusal::Column, "a column of 240 or more"),
+    (Refusal::Page, "any other page"),
+    (Refusal::OddAddress, "a halfword store at an odd address of page 6"),
 ];
 
 /// What a function of the library returned: 0, or a refusal's number.
@@ -54,7 +61,7 @@ impl Refusal {
     /// assert_eq!(ashlarkin::Refusal::of(3), ashlarkin::Refusal::Line);
     /// ```
     pub fn of(number: u32) -> Refusal {
-        let row = (number as usize).checked_sub(1).and_then(|at| TABLE.get(at));
+        let row = TABLE.iter().find(|row| row.0.number() == number);
         row.map_or(Refusal::Unknown(number), |row| row.0)
     }
 
@@ -73,6 +80,8 @@ impl Refusal {
             Refusal::Reference => 6,
             Refusal::Entry => 7,
             Refusal::Column => 8,
+            Refusal::Page => 9,
+            Refusal::OddAddress => 11,
             Refusal::Unknown(number) => number,
         }
     }
@@ -117,12 +126,15 @@ mod tests {
 
     #[test]
     fn a_number_comes_back() {
-        for number in (0..10).chain([255, 256, u32::MAX]) {
+        for number in (0..13).chain([255, 256, u32::MAX]) {
             assert_eq!(Refusal::of(number).number(), number);
         }
         assert_eq!(answer(0), Ok(()));
         assert_eq!(answer(7), Err(Refusal::Entry));
         assert_eq!(answer(8), Err(Refusal::Column));
-        assert_eq!(answer(9), Err(Refusal::Unknown(9)));
+        assert_eq!(answer(9), Err(Refusal::Page));
+        assert_eq!(answer(10), Err(Refusal::Unknown(10)));
+        assert_eq!(answer(11), Err(Refusal::OddAddress));
+        assert_eq!(answer(12), Err(Refusal::Unknown(12)));
     }
 }

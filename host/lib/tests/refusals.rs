@@ -1,5 +1,5 @@
-//! Every number of documents 01 and 02, asked for through the wrapper: a refusal changes no byte, a draw writes every
-//! pixel, a reason changes nothing.
+//! Every number of documents 01 and 02 but for the bus's (bus.rs), asked for through the wrapper: a refusal changes no
+//! byte, a draw writes every pixel, a reason changes nothing.
 
 use std::thread;
 

@@ -3,6 +3,7 @@
 
 use ashlarkin::{Effect, Layer, Reason, Refusal, Region, WIDTH};
 use ashlarkin_oracle::Answer;
+use ashlarkin_oracle::cases::{Change, Lent};
 use clap::ValueEnum;
 
 use super::reasons::Said;
@@ -32,6 +33,11 @@ enum Flipped {
     Shown,
     Blank,
     Refusal,
+    BusNumber,
+    BusValue,
+    BusVram,
+    BusPalette,
+    BusOam,
 }
 
 impl Flip {
@@ -60,6 +66,7 @@ impl Flip {
                 return;
             }
             (what, Work::Reasons(_)) => return change_reason(what, &mut last.reasons),
+            (what, Work::Bus(_)) => return change_call(what, last),
             (Flipped::Entry, Work::Draws(_)) | (Flipped::Reset, Work::Reset(_)) => &mut last.entries,
             (Flipped::Pixel, Work::Draws(_)) => &mut last.output,
             (Flipped::Step, Work::Step { .. }) => &mut last.references,
@@ -88,6 +95,23 @@ fn change_reason(what: Flipped, said: &mut [Said]) {
             _ => {}
         },
         _ => {}
+    }
+}
+
+/// Gives a call on the bus another number or value, or another last byte of a memory.
+fn change_call(what: Flipped, last: &mut Given) {
+    let (memory, len) = match what {
+        Flipped::BusNumber => return last.answer = Answer::Number(8),
+        Flipped::BusValue => return last.value ^= 1,
+        Flipped::BusVram => ("vram", Lent::WHOLE.vram),
+        Flipped::BusPalette => ("palette", Lent::WHOLE.palette),
+        Flipped::BusOam => ("oam", Lent::WHOLE.oam),
+        _ => return,
+    };
+    let byte = len - 1;
+    match last.changes.iter_mut().find(|change| (change.memory, change.byte) == (memory, byte)) {
+        Some(change) => change.after ^= 1,
+        None => last.changes.push(Change { memory, byte, before: 0x5a, after: 0x5b }),
     }
 }
 

@@ -47,6 +47,10 @@ impl Kept {
             let (lent, all) = (draw.vram_len, draw.vram.len());
             ensure!(lent <= all, "vram_len is {lent}, and vram has {all} bytes");
         }
+        if let Work::Bus(case) = &kept.work {
+            let moderate = case.calls.iter().all(|call| call.lent.is_moderate());
+            ensure!(moderate, "a call is lent more than twice a buffer's length");
+        }
         Ok(kept)
     }
 }
@@ -92,7 +96,7 @@ mod tests {
     fn bad_edits_are_told() {
         let works = Work::of(&mut Cases::new(5), 5, 0).into_iter();
         let texts: Vec<String> = works.map(|work| String::from_utf8(kept(0, work).text().unwrap()).unwrap()).collect();
-        let [draws, step, reset, record_draws, record_step, reasons] = &texts[..] else { panic!("six works") };
+        let [draws, step, reset, record_draws, record_step, reasons, bus] = &texts[..] else { panic!("seven works") };
         for (text, from, to, words) in [
             (step, r#""seed": 5"#, r#""seed": x"#, "expected value at line 3"),
             (step, r#""seed": 5"#, r#""seed": -5"#, "invalid value: integer `-5`, expected u64 at line 3"),
@@ -110,6 +114,16 @@ mod tests {
             (record_step, r#""pa": "#, r#""pb": "#, "duplicate field `pb`"),
             (reasons, r#""line": "#, r#""column": 7, "line": "#, "unknown field `column`"),
             (reasons, r#""vram_len": "#, r#""vram_len": 9"#, "vram_len is 9131072, and vram has 131136 bytes"),
+            (
+                bus,
+                r#""read8""#,
+                r#""read16""#,
+                "unknown variant `read16`, expected one of `read8`, `store8`, `store16`",
+            ),
+            (bus, r#""store16": "#, r#""store16": 99999"#, "expected u16"),
+            (bus, r#""address": "#, r#""address": -"#, "expected u32"),
+            (bus, r#""vram": 131072"#, r#""vram": 9131072"#, "a call is lent more than twice a buffer's length"),
+            (bus, r#""registers": 86"#, r#""entries": 86"#, "unknown field `entries`"),
         ] {
             assert!(text.contains(from), "{from}");
             let error = Kept::of_text(text.replacen(from, to, 1).as_bytes()).err().expect("refused");

@@ -1,5 +1,6 @@
 //! Differential runs: the proved library and the oracle on the same generated cases, byte for byte.
 
+mod bus;
 mod flip;
 mod kept;
 mod reasons;
@@ -156,7 +157,7 @@ fn both(work: &Work, index: u64, oracle: &mut Oracle, planted: Planted) -> (Vec<
 
 /// Where two sides part, as a line.
 fn place(seed: u64, index: u64, work: &Work, at: usize, parts: &str) -> String {
-    format!("seed {seed}, case {index}, {} {at}: library and oracle part: {parts}", work.name())
+    format!("seed {seed}, case {index}, {}: library and oracle part: {parts}", work.call(at))
 }
 
 /// Runs a kept difference again and shows what each side gives.
@@ -166,7 +167,7 @@ pub fn replay(path: &Path, planted: Planted) -> Result<Exit> {
     for (at, (library, oracle)) in library.iter().zip(&oracle).enumerate() {
         let (ours, theirs) = (answer(&library.answer), answer(&oracle.answer));
         let verdict = if library == oracle { "the same bytes" } else { "another answer or other bytes" };
-        say(&format!("{} {at}: library {ours}, oracle {theirs}: {verdict}", work.name()))?;
+        say(&format!("{}: library {ours}, oracle {theirs}: {verdict}", work.call(at)))?;
     }
     if let Some((at, parts)) = difference(&library, &oracle) {
         bail!("{}: {}", path.display(), place(seed, case, &work, at, &parts));

@@ -3,8 +3,8 @@
 use std::time::Duration;
 
 use ashlarkin::{Reason, Refusal};
-use ashlarkin_oracle::Answer;
 use ashlarkin_oracle::cases::Kind;
+use ashlarkin_oracle::{Access, Answer};
 
 use super::reasons::Said;
 use super::work::{Given, Work};
@@ -19,8 +19,11 @@ const KINDS: [(Kind, &str); 4] = [
 const REGIONS: [&str; 5] = ["no windows", "window 0", "window 1", "object window", "outside"];
 const EFFECTS: [&str; 5] = ["none", "sprite blend", "control blend", "white", "black"];
 
-/// By number 0 to 8; the last place is for anything else.
-type Numbers = [u64; 10];
+/// What is done on the bus.
+const ACCESSES: [&str; 3] = ["reads", "byte stores", "halfword stores"];
+
+/// By number 0 to 11; the last place is for anything else.
+type Numbers = [u64; 13];
 
 #[derive(Default)]
 pub struct Tally {
@@ -35,6 +38,7 @@ pub struct Tally {
     columns: Numbers,
     regions: [u64; REGIONS.len()],
     effects: [u64; EFFECTS.len()],
+    accesses: [Numbers; ACCESSES.len()],
 }
 
 impl Tally {
@@ -48,6 +52,10 @@ impl Tally {
             Work::RecordStep(_) => &mut self.record_steps,
             Work::Reasons(_) => {
                 return given.iter().flat_map(|given| &given.reasons).for_each(|said| self.explain(said));
+            }
+            Work::Bus(case) => {
+                let calls = case.calls.iter().map(|call| call.access).zip(given);
+                return calls.for_each(|(access, given)| self.accesses[kind(access)][place(&given.answer)] += 1);
             }
         };
         for Given { answer, .. } in given {
@@ -80,6 +88,7 @@ impl Tally {
         add(&mut self.columns, &other.columns);
         add(&mut self.regions, &other.regions);
         add(&mut self.effects, &other.effects);
+        self.accesses.iter_mut().zip(&other.accesses).for_each(|(numbers, other)| add(numbers, other));
         self
     }
 
@@ -103,6 +112,9 @@ impl Tally {
             named(REGIONS, self.regions),
             named(EFFECTS, self.effects)
         ));
+        lines.push(format!("  {} calls on the bus", self.accesses.map(sum).iter().sum::<u64>()));
+        let accesses = ACCESSES.iter().zip(&self.accesses);
+        lines.extend(accesses.map(|(name, numbers)| format!("  {name} by number: {}", by_number(numbers))));
         let rate = (draws + record_draws) as f64 / time.as_secs_f64();
         let threads = rayon::current_num_threads();
         lines.push(format!("  {rate:.0} draws a second on both sides, cases made and compared, {threads} threads"));
@@ -112,8 +124,16 @@ impl Tally {
 
 fn place(answer: &Answer) -> usize {
     match answer {
-        Answer::Number(number @ 0..=8) => *number as usize,
-        _ => 9,
+        Answer::Number(number @ 0..=11) => *number as usize,
+        _ => 12,
+    }
+}
+
+fn kind(access: Access) -> usize {
+    match access {
+        Access::Read8 => 0,
+        Access::Store8(_) => 1,
+        Access::Store16(_) => 2,
     }
 }
 

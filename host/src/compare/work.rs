@@ -1,10 +1,11 @@
 //! What both sides are asked to do, and what each gives.
 
 use ashlarkin::{BgAffine, ENTRIES_LEN, Input, OUTPUT_LEN, ObjBufferEntry};
-use ashlarkin_oracle::Answer;
-use ashlarkin_oracle::cases::{self, Case, Cases, Draw, Loaded};
+use ashlarkin_oracle::cases::{self, BusCall, BusCase, Called, Case, Cases, Change, Draw, Loaded};
+use ashlarkin_oracle::{Answer, Memories};
 use serde::{Deserialize, Serialize};
 
+use super::bus;
 use super::reasons::{self, Said};
 use super::records::{self, RecordCase};
 
@@ -28,6 +29,8 @@ pub enum Work {
     RecordStep([BgAffine; 2]),
     /// Why the columns of draws have their colours, each on the row as it is before the draw. There is no output.
     Reasons(Case),
+    /// Reads and stores on one set of memories, one after another.
+    Bus(BusCase),
 }
 
 /// What a side gave for one call: its answer, and what was lent afterwards; what wasn't lent is empty.
@@ -41,16 +44,28 @@ pub struct Given {
     pub backgrounds: Vec<BgAffine>,
     /// What was said of the columns.
     pub reasons: Vec<Said>,
+    /// The byte that was read on the bus, and every byte of the lent memories that isn't as before.
+    pub value: u8,
+    pub changes: Vec<Change>,
 }
 
 impl Given {
     fn new(answer: Answer) -> Given {
-        let (entries, output, references) = (vec![], vec![], vec![]);
-        Given { answer, entries, output, references, row: vec![], backgrounds: vec![], reasons: vec![] }
+        Given {
+            answer,
+            entries: vec![],
+            output: vec![],
+            references: vec![],
+            row: vec![],
+            backgrounds: vec![],
+            reasons: vec![],
+            value: 0,
+            changes: vec![],
+        }
     }
 }
 
-/// Someone who draws, steps, resets and explains.
+/// Someone who draws, steps, resets, explains, reads and stores.
 pub trait Side {
     fn draw(&mut self, draw: &Draw, entries: &mut [u8], output: &mut [u8]) -> Answer;
     fn step(&mut self, steps: [i16; 4], references: &mut [u8]) -> Answer;
@@ -59,6 +74,8 @@ pub trait Side {
     fn step_records(&mut self, backgrounds: &mut [BgAffine; 2]) -> Answer;
     /// What is said of each of `reasons::columns`, and the answer for the draw.
     fn explain(&mut self, draw: &Draw, entries: &[u8]) -> (Answer, Vec<Said>);
+    /// What is answered on the bus, and the byte that was read, else 0.
+    fn access(&mut self, call: &BusCall, registers: &[u8], memories: &mut Memories) -> (Answer, u8);
 }
 
 /// The proved library.
@@ -96,6 +113,10 @@ impl Side for Library {
         let input = input(draw);
         let said: Vec<Said> = reasons::columns().map(|column| ashlarkin::explain(&input, entries, column)).collect();
         (number(said[0].map(drop)), said)
+    }
+
+    fn access(&mut self, call: &BusCall, registers: &[u8], memories: &mut Memories) -> (Answer, u8) {
+        bus::by_library(call, registers, memories)
     }
 }
 
@@ -136,6 +157,10 @@ impl Side for Oracle {
     fn explain(&mut self, draw: &Draw, entries: &[u8]) -> (Answer, Vec<Said>) {
         reasons::worked_out(&mut self.draws, draw, entries)
     }
+
+    fn access(&mut self, call: &BusCall, registers: &[u8], memories: &mut Memories) -> (Answer, u8) {
+        self.others.access(call.access, call.address, registers, memories)
+    }
 }
 
 fn number(result: Result<(), ashlarkin::Refusal>) -> Answer {
@@ -150,7 +175,7 @@ pub fn input(draw: &Draw) -> Input<'_> {
 
 impl Work {
     /// The work of a case. Each has a step and a reset, too; rows of every length up to a few bytes too many are reset.
-    /// Draws and step are done over records as well, and the draws of some cases are explained.
+    /// Draws and step are done over records as well, the draws of some cases are explained, and some have calls on the bus.
     pub fn of(cases: &mut Cases, seed: u64, index: u64) -> Vec<Work> {
         let case = cases.case(index);
         let (steps, references) = cases::step(seed, index);
@@ -158,8 +183,9 @@ impl Work {
         let on_records = RecordCase::of(cases, seed, index, &case).into_iter().map(Work::RecordDraws);
         let stepped = Work::RecordStep(records::backgrounds(seed, index, steps, &references));
         let explained = reasons::of(&case, index).map(Work::Reasons);
+        let on_bus = bus::of(cases, index).map(Work::Bus);
         let on_bytes = [Work::Draws(case), Work::Step { steps, references }, Work::Reset(row)];
-        on_bytes.into_iter().chain(on_records).chain([stepped]).chain(explained).collect()
+        on_bytes.into_iter().chain(on_records).chain([stepped]).chain(explained).chain(on_bus).collect()
     }
 
     /// The draws of the work, if it has any.
@@ -200,18 +226,20 @@ impl Work {
                 vec![Given { backgrounds: backgrounds.to_vec(), ..Given::new(answer) }]
             }
             Work::Reasons(case) => run_reasons(case, side),
+            Work::Bus(case) => run_bus(case, side),
         }
     }
 
     /// What one of its calls is called.
-    pub fn name(&self) -> &'static str {
+    pub fn call(&self, at: usize) -> String {
         match self {
-            Work::Draws(_) => "draw",
-            Work::Step { .. } => "step",
-            Work::Reset(_) => "reset",
-            Work::RecordDraws(_) => "draw on records",
-            Work::RecordStep(_) => "step on records",
-            Work::Reasons(_) => "reasons",
+            Work::Draws(_) => format!("draw {at}"),
+            Work::Step { .. } => format!("step {at}"),
+            Work::Reset(_) => format!("reset {at}"),
+            Work::RecordDraws(_) => format!("draw on records {at}"),
+            Work::RecordStep(_) => format!("step on records {at}"),
+            Work::Reasons(_) => format!("reasons {at}"),
+            Work::Bus(case) => format!("bus call {at} ({})", case.calls[at]),
         }
     }
 }
@@ -235,6 +263,15 @@ fn run_reasons(case: &Case, side: &mut dyn Side) -> Vec<Given> {
         Given { entries: lent, reasons, ..Given::new(answer) }
     };
     case.draws.iter().map(explain).collect()
+}
+
+fn run_bus(case: &BusCase, side: &mut dyn Side) -> Vec<Given> {
+    let called = case.run(|call, registers, memories| side.access(call, registers, memories));
+    let given = called.into_iter().map(|called| {
+        let Called { answer, value, changes } = called;
+        Given { value, changes, ..Given::new(answer) }
+    });
+    given.collect()
 }
 
 /// The first call at which the two part, and where, in words; the library's value first.
@@ -265,6 +302,10 @@ pub fn difference(library: &[Given], oracle: &[Given]) -> Option<(usize, String)
             .map(|(at, ours, theirs)| format!("background {} {ours:?} and {theirs:?}", at + 2)),
     );
     parts.extend(reasons::difference(&library.reasons, &oracle.reasons));
+    if library.value != oracle.value {
+        parts.push(format!("value 0x{:02x} and 0x{:02x}", library.value, oracle.value));
+    }
+    parts.extend(bus::difference(&library.changes, &oracle.changes));
     Some((at, parts.join(", ")))
 }
 

@@ -1,15 +1,16 @@
-//! The library made wrong about the lowest bit of tile numbers, so that the tests of the command see each wrong rule told
-//! from the oracle. Only the hidden option `--wrong-for-test` asks for it.
+//! The library made wrong about the lowest bit of tile numbers or about the bus, so that the tests of the command see each
+//! wrong rule told from the oracle. Only the hidden option `--wrong-for-test` asks for it.
 
-use ashlarkin::{BgAffine, OUTPUT_LEN, ObjBufferEntry, READING_H, READING_R};
-use ashlarkin_oracle::cases::Draw;
-use ashlarkin_oracle::{Answer, ONE_DIMENSIONAL, has_256_colours, make_tiles_even};
+use ashlarkin::{BgAffine, OAM_LEN, OUTPUT_LEN, ObjBufferEntry, READING_H, READING_R};
+use ashlarkin_oracle::cases::{BusCall, Draw};
+use ashlarkin_oracle::{Access, Answer, Memories, ONE_DIMENSIONAL, has_256_colours, make_tiles_even};
 use clap::ValueEnum;
 
 use super::reasons::Said;
 use super::work::{Library, Side};
 
-/// A wrong rule. The bit counts but for 256 colours in two-dimensional mapping under H (document 02, W-203).
+/// A wrong rule. The bit counts but for 256 colours in two-dimensional mapping under H (document 02, W-203); what the bus
+/// does is in W-205.
 #[derive(Clone, Copy, PartialEq, ValueEnum)]
 pub enum WrongRule {
     KeptUnderH,
@@ -17,6 +18,13 @@ pub enum WrongRule {
     DroppedInOneDimension,
     #[value(name = "dropped-for-16-colours")]
     DroppedFor16Colours,
+    OneHalfFilled,
+    UpperVideoStays,
+    OamTakesBytes,
+    #[value(name = "modes-6-and-7-are-text")]
+    Modes6And7AreText,
+    OddPaletteRefused,
+    OddOamKept,
 }
 
 /// The library as a wrong rule has it.
@@ -89,4 +97,64 @@ impl Side for Wrong {
         }
         Library.explain(&self.changed(draw), &entries)
     }
+
+    fn access(&mut self, call: &BusCall, registers: &[u8], memories: &mut Memories) -> (Answer, u8) {
+        let (page, odd) = (call.address >> 24, call.address % 2 == 1);
+        match (self.0, call.access, page) {
+            (WrongRule::OneHalfFilled, Access::Store8(_), _) => fill_one_half(call, registers, memories),
+            (WrongRule::UpperVideoStays, _, 6) if call.address & 0x18000 == 0x18000 => {
+                exchange_upper(&mut memories.vram);
+                let given = Library.access(call, registers, memories);
+                exchange_upper(&mut memories.vram);
+                given
+            }
+            (WrongRule::Modes6And7AreText, Access::Store8(_), _) => {
+                let mut registers = registers.to_vec();
+                registers.iter_mut().take(1).filter(|byte| **byte & 6 == 6).for_each(|byte| *byte &= !7);
+                Library.access(call, &registers, memories)
+            }
+            (WrongRule::OamTakesBytes, Access::Store8(value), 7) => {
+                put_in_oam(call, registers, memories, [value, value], call.address & !1)
+            }
+            (WrongRule::OddOamKept, Access::Store16(value), 7) if odd => {
+                put_in_oam(call, registers, memories, value.to_le_bytes(), call.address)
+            }
+            (WrongRule::OddPaletteRefused, Access::Store16(_), 5) if odd => {
+                match Library.access(call, registers, &mut memories.clone()) {
+                    (Answer::Number(0), value) => (Answer::Number(11), value),
+                    refused => refused,
+                }
+            }
+            _ => Library.access(call, registers, memories),
+        }
+    }
+}
+
+/// A byte store that leaves the other half of its halfword as it was.
+fn fill_one_half(call: &BusCall, registers: &[u8], memories: &mut Memories) -> (Answer, u8) {
+    let before = memories.clone();
+    let given = Library.access(call, registers, memories);
+    for (bytes, before) in [(&mut memories.vram, before.vram), (&mut memories.palette, before.palette)] {
+        let others = bytes.iter_mut().zip(before).skip(1 - call.address as usize % 2).step_by(2);
+        others.for_each(|(byte, before)| *byte = before);
+    }
+    given
+}
+
+/// Exchanges video memory from 0x18000 on with what it is folded to.
+fn exchange_upper(vram: &mut [u8]) {
+    if let Some((low, upper)) = vram.split_at_mut_checked(0x18000) {
+        low[0x10000..].iter_mut().zip(upper).for_each(|(low, upper)| std::mem::swap(low, upper));
+    }
+}
+
+/// The library's answer; where it accepts, these two bytes stand in OAM, and nothing else is changed.
+fn put_in_oam(call: &BusCall, registers: &[u8], memories: &mut Memories, bytes: [u8; 2], address: u32) -> (Answer, u8) {
+    let given = Library.access(call, registers, &mut memories.clone());
+    if given.0 == Answer::Number(0) {
+        for (at, byte) in (address as usize..).zip(bytes) {
+            memories.oam[at % OAM_LEN] = byte;
+        }
+    }
+    given
 }

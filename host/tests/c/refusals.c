@@ -1,5 +1,6 @@
 /* The library's refusals as a C program meets them: each number is returned, no lent byte changes, nor any beside. And
-   what C alone sees of a reason: every field of it, with a refusal and under forced blank, too. */
+   what C alone sees of a reason: every field of it, with a refusal and under forced blank, too. And the bus: what each
+   read gives, and which two bytes each store changes. */
 #include <stdio.h>
 #include <stdlib.h>
 #include <string.h>
@@ -206,19 +207,29 @@ static void records(void)
 
 _Static_assert(sizeof(struct ashlarkin_reason) == 36, "a reason has no gaps");
 
-/* The five buffers that are lent for a reason, as they were. */
+/* The five buffers that are lent for a reason, and to the bus, as they were. */
 static uint8_t lent_before[5][sizeof vram];
+
+static void remember_lent(void)
+{
+    for (int i = 0; i < 5; i++)
+        memcpy(lent_before[i], buffers[i], expected[i] + SPARE);
+}
+
+static void check_lent(const char *what)
+{
+    for (int i = 0; i < 5; i++)
+        check(!memcmp(lent_before[i], buffers[i], expected[i] + SPARE), what, (size_t)i);
+}
 
 static struct ashlarkin_reason explain(uint32_t reading, uint32_t line, int32_t x2, const size_t lens[6],
     uint32_t column)
 {
-    for (int i = 0; i < 5; i++)
-        memcpy(lent_before[i], buffers[i], expected[i] + SPARE);
+    remember_lent();
     const struct ashlarkin_reason reason = ashlarkin_explain(reading, line, x2, 0, 0, 0, lens[0] ? vram : NULL, lens[0],
         lens[1] ? palette : NULL, lens[1], lens[2] ? oam : NULL, lens[2], lens[3] ? registers : NULL, lens[3],
         lens[4] ? entries : NULL, lens[4], column);
-    for (int i = 0; i < 5; i++)
-        check(!memcmp(lent_before[i], buffers[i], expected[i] + SPARE), "a reason changes no byte", (size_t)i);
+    check_lent("a reason changes no byte");
     return reason;
 }
 
@@ -352,6 +363,185 @@ static void explained(void)
         check(output[i] == (uint8_t)(pixels[i / 4] >> 8 * (i % 4)), "the pixel is the drawn one", i / 4);
 }
 
+_Static_assert(sizeof(struct ashlarkin_byte) == 8, "a byte has no gaps");
+
+/* Places in `buffers` and `expected`. */
+enum { VRAM, PALETTE, OAM, REGISTERS };
+
+static struct ashlarkin_byte read8(uint32_t address, const size_t lens[6])
+{
+    remember_lent();
+    const struct ashlarkin_byte byte = ashlarkin_read8(address, lens[0] ? vram : NULL, lens[0],
+        lens[1] ? palette : NULL, lens[1], lens[2] ? oam : NULL, lens[2]);
+    check_lent("a read changes no byte");
+    return byte;
+}
+
+static uint32_t store8(uint32_t address, uint8_t value, const size_t lens[6])
+{
+    remember_lent();
+    return ashlarkin_store8(address, value, lens[3] ? registers : NULL, lens[3], lens[0] ? vram : NULL, lens[0],
+        lens[1] ? palette : NULL, lens[1], lens[2] ? oam : NULL, lens[2]);
+}
+
+static uint32_t store16(uint32_t address, uint16_t value, const size_t lens[6])
+{
+    remember_lent();
+    return ashlarkin_store16(address, value, lens[0] ? vram : NULL, lens[0], lens[1] ? palette : NULL, lens[1],
+        lens[2] ? oam : NULL, lens[2]);
+}
+
+/* Other bytes than 0 everywhere, and the mode with every bit above it. */
+static void fresh_bus(uint8_t mode)
+{
+    for (int i = 0; i < 5; i++)
+        memset(buffers[i], CANARY, expected[i] + SPARE);
+    registers[0] = 0xf8 | mode;
+}
+
+static void refused8(uint32_t number, uint32_t address, const size_t lens[6])
+{
+    check(store8(address, 0x12, lens) == number, "a byte store gives its number", number);
+    check_lent("a refused byte store changes no byte");
+}
+
+static void refused16(uint32_t number, uint32_t address, const size_t lens[6])
+{
+    check(store16(address, 0x1234, lens) == number, "a halfword store gives its number", number);
+    check_lent("a refused halfword store changes no byte");
+}
+
+static void refused_read_and_stores(uint32_t number, uint32_t address, const size_t lens[6])
+{
+    const struct ashlarkin_byte byte = read8(address, lens);
+    check(byte.number == number && byte.value == 0, "a read is refused, its value 0", number);
+    refused8(number, address, lens);
+    refused16(number, address, lens);
+}
+
+/* Whichever page it is, and before 9 and 11. */
+static void bus_lengths(void)
+{
+    const uint32_t addresses[5] = {0x05000000, 0x06000000, 0x07000000, 0x08000000, 0x06000001};
+    const size_t none[6] = {0};
+    fresh_bus(0);
+    for (int k = 0; k < 5; k++) {
+        refused_read_and_stores(ASHLARKIN_LENGTH, addresses[k], none);
+        for (int i = VRAM; i <= REGISTERS; i++) {
+            const size_t wrong[6] = {0, 1, expected[i] / 2, expected[i] - 1, expected[i] + 1, expected[i] + SPARE};
+            for (int j = 0; j < 6; j++) {
+                size_t lens[6];
+                memcpy(lens, expected, sizeof lens);
+                lens[i] = wrong[j];
+                if (i == REGISTERS) /* lent to byte stores alone */
+                    refused8(ASHLARKIN_LENGTH, addresses[k], lens);
+                else
+                    refused_read_and_stores(ASHLARKIN_LENGTH, addresses[k], lens);
+            }
+        }
+    }
+}
+
+static void bus_addresses(void)
+{
+    const uint32_t pages[7] = {0x00, 0x04, 0x08, 0x15, 0x85, 0xf6, 0xff};
+    const uint32_t odd[5] = {0x06000001, 0x06010001, 0x06018001, 0x0601ffff, 0x06ffffff};
+    fresh_bus(0);
+    for (int k = 0; k < 7; k++) {
+        refused_read_and_stores(ASHLARKIN_PAGE, pages[k] << 24, expected);
+        refused_read_and_stores(ASHLARKIN_PAGE, pages[k] << 24 | 0xffffff, expected); /* 9 before 11 */
+    }
+    for (int k = 0; k < 5; k++)
+        refused16(ASHLARKIN_ODD_ADDRESS, odd[k], expected);
+}
+
+/* A store that was done: these two bytes changed, and no other. */
+static void stored(uint32_t number, int which, size_t offset, uint32_t halfword)
+{
+    check(number == ASHLARKIN_DRAWN, "a store answers 0", offset);
+    lent_before[which][offset] = (uint8_t)halfword;
+    lent_before[which][offset + 1] = (uint8_t)(halfword >> 8);
+    check_lent("a store changes its two bytes and no other");
+}
+
+static void ignored(uint32_t number, size_t offset)
+{
+    check(number == ASHLARKIN_DRAWN, "a byte store that changes nothing answers 0", offset);
+    check_lent("an ignored byte store changes no byte");
+}
+
+static void stored_halfwords(void)
+{
+    fresh_bus(0);
+    stored(store16(0x05000000, 0x1234, expected), PALETTE, 0, 0x1234);
+    stored(store16(0x05000003, 0x5678, expected), PALETTE, 2, 0x5678);
+    stored(store16(0x05000400, 0x9abc, expected), PALETTE, 0, 0x9abc);
+    stored(store16(0x05ffffff, 0xdef0, expected), PALETTE, 0x3fe, 0xdef0);
+    stored(store16(0x07000000, 0x1234, expected), OAM, 0, 0x1234);
+    stored(store16(0x07000401, 0x5678, expected), OAM, 0, 0x5678);
+    stored(store16(0x07ffffff, 0x9abc, expected), OAM, 0x3fe, 0x9abc);
+    stored(store16(0x06000000, 0x1234, expected), VRAM, 0, 0x1234);
+    stored(store16(0x06020000, 0x5678, expected), VRAM, 0, 0x5678);
+    stored(store16(0x06010000, 0x9abc, expected), VRAM, 0x10000, 0x9abc);
+    stored(store16(0x06018000, 0xdef0, expected), VRAM, 0x10000, 0xdef0);
+    stored(store16(0x06017ffe, 0x1234, expected), VRAM, 0x17ffe, 0x1234);
+    stored(store16(0x06fffffe, 0x5678, expected), VRAM, 0x17ffe, 0x5678);
+}
+
+static void stored_bytes(void)
+{
+    fresh_bus(0);
+    stored(store8(0x05000000, 0x12, expected), PALETTE, 0, 0x1212);
+    stored(store8(0x05000401, 0x34, expected), PALETTE, 0, 0x3434);
+    stored(store8(0x05ffffff, 0x56, expected), PALETTE, 0x3fe, 0x5656);
+    stored(store8(0x06000000, 0x12, expected), VRAM, 0, 0x1212);
+    stored(store8(0x06020001, 0x34, expected), VRAM, 0, 0x3434);
+    ignored(store8(0x06018000, 0x12, expected), 0x10000);
+    ignored(store8(0x06ffffff, 0x12, expected), 0x17fff);
+    ignored(store8(0x07000000, 0x12, expected), 0);
+    ignored(store8(0x07000401, 0x12, expected), 1);
+    for (uint8_t mode = 0; mode < 8; mode++) {
+        const uint32_t tiles = mode < 3 ? 0x10000 : 0x14000;
+        fresh_bus(mode);
+        stored(store8(0x06000000 + tiles - 1, 0x12, expected), VRAM, tiles - 2, 0x1212);
+        ignored(store8(0x06000000 + tiles, 0x12, expected), tiles);
+        ignored(store8(0x06000001 + tiles, 0x12, expected), tiles + 1);
+    }
+    fresh_bus(3);
+    stored(store8(0x06018000, 0x12, expected), VRAM, 0x10000, 0x1212);
+    stored(store8(0x0601bfff, 0x34, expected), VRAM, 0x13ffe, 0x3434);
+    ignored(store8(0x0601c000, 0x12, expected), 0x14000);
+}
+
+static void check_read(uint32_t address, int which, size_t offset)
+{
+    const struct ashlarkin_byte byte = read8(address, expected);
+    check(byte.number == ASHLARKIN_DRAWN && byte.value == buffers[which][offset], "a read byte", address);
+}
+
+static void read_bytes(void)
+{
+    for (int i = 0; i < 5; i++)
+        for (size_t j = 0; j < expected[i]; j++)
+            buffers[i][j] = (uint8_t)(31 * (size_t)i + 7 * j + j / 256);
+    for (uint32_t offset = 0; offset < 8; offset++) {
+        const uint32_t at = 0x91 * offset; /* odd and even */
+        check_read(0x05000000 + at, PALETTE, at);
+        check_read(0x05000400 + at, PALETTE, at);
+        check_read(0x07000000 + at, OAM, at);
+        check_read(0x07fffc00 + at, OAM, at);
+        check_read(0x06000000 + at, VRAM, at);
+        check_read(0x06020000 + at, VRAM, at);
+        check_read(0x06010000 + at, VRAM, 0x10000 + at);
+        check_read(0x06018000 + at, VRAM, 0x10000 + at);
+        check_read(0x06ffffff - at, VRAM, 0x17fff - at);
+    }
+    /* All buffers may be the same memory, since none is written. */
+    const struct ashlarkin_byte byte = ashlarkin_read8(0x07000007, vram, ASHLARKIN_VRAM_LEN, vram,
+        ASHLARKIN_PALETTE_LEN, vram, ASHLARKIN_OAM_LEN);
+    check(byte.number == ASHLARKIN_DRAWN && byte.value == vram[7], "one memory for all", 7);
+}
+
 int main(void)
 {
     wrong_lengths();
@@ -362,6 +552,11 @@ int main(void)
     unexplained_one_by_one();
     explained_blank();
     explained();
+    bus_lengths();
+    bus_addresses();
+    stored_halfwords();
+    stored_bytes();
+    read_bytes();
     printf("refusals from C: %d checks\n", tried);
     return 0;
 }

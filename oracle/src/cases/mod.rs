@@ -1,5 +1,8 @@
-//! Generated draws for differential runs. A case is a pure function of (seed, index), so that a number names it.
+//! Generated draws, and calls on the bus, for differential runs. A case is a pure function of (seed, index), so that a
+//! number names it.
 
+mod bus;
+mod changes;
 mod faults;
 mod loaded;
 mod random;
@@ -12,6 +15,8 @@ use std::sync::Arc;
 use serde::{Deserialize, Deserializer, Serialize};
 
 use crate::input::*;
+pub use bus::{BusCall, BusCase, Lent};
+pub use changes::{Called, Change};
 pub use loaded::Loaded;
 pub use random::{Random, fresh_seed};
 use scene::Scene;
@@ -173,6 +178,15 @@ impl Cases {
         draw.registers[0..2].copy_from_slice(&dispcnt.to_le_bytes());
         draw.registers[0x50..0x52].fill(0);
         (draw, bg)
+    }
+
+    /// Reads and stores on the scene's memory. The index decides the mode.
+    pub fn bus(&mut self, index: u64) -> BusCase {
+        self.enter(index);
+        // Streams of the bus stand apart from those of cases.
+        let random = &mut Random::new(self.seed ^ 0xb050, index);
+        let vram = self.scene.vram(random);
+        BusCase::new(random, vram, (index % 8) as u8)
     }
 
     /// Makes the scene of an index the current one.

@@ -1,17 +1,18 @@
 //! A second opinion of the draw: document 01, with W-203 of document 02, typed as it reads, a pixel at a time, from those
-//! documents alone. A mutant is the same model with one deliberate error that looks right; it shows that the generated cases would catch it.
+//! documents alone; `bus` has that of the bus. A mutant is the same model with one deliberate error that looks right; it shows that the generated cases would catch it.
 
 // A test binary that includes this module may use only a part of it.
 #![allow(dead_code)]
 
 mod backgrounds;
+pub mod bus;
 mod composing;
 mod mutant;
 mod sizes;
 mod sprites;
 mod windows;
 
-pub use mutant::Mutant;
+pub use mutant::{BusMutant, Mutant};
 
 use ashlarkin_oracle::{ENTRIES_LEN, Input, OAM_LEN, OUTPUT_LEN, PALETTE_LEN, REGISTERS_LEN, VRAM_LEN};
 

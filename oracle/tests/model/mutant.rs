@@ -1,26 +1,26 @@
 //! The deliberate errors: each is a mistake that a competent person could make.
 
 macro_rules! mutants {
-    ($($name:ident: $says:literal,)*) => {
+    ($mutant:ident { $($name:ident: $says:literal,)* }) => {
         #[derive(Clone, Copy, Debug, PartialEq, Eq)]
-        pub enum Mutant {
+        pub enum $mutant {
             $($name,)*
         }
 
-        impl Mutant {
-            pub const ALL: [Mutant; [$(Mutant::$name,)*].len()] = [$(Mutant::$name,)*];
+        impl $mutant {
+            pub const ALL: [$mutant; [$($mutant::$name,)*].len()] = [$($mutant::$name,)*];
 
             /// Which error that looks right this is.
             pub fn says(self) -> &'static str {
                 match self {
-                    $(Mutant::$name => $says,)*
+                    $($mutant::$name => $says,)*
                 }
             }
         }
     };
 }
 
-mutants! {
+mutants! { Mutant {
     // Refusals, forced blank, the entry row.
     AnyOtherReadingIsH: "A reading number above 1 is taken as H.",
     Line159Refused: "Line 159 is refused with 3.",
@@ -141,4 +141,39 @@ mutants! {
     BlendRoundedUp: "A blended channel is rounded up.",
     BlendNotCapped: "A blended channel above 31 wraps to five bits.",
     RedAndBlueExchanged: "Red and blue are exchanged in the output.",
-}
+}}
+
+mutants! { BusMutant {
+    // Refusals.
+    PageByLowFourBits: "The page is the low four of the address's top eight bits.",
+    PageBeforeLength: "Refusal 9 is tested before refusal 2.",
+    OddBeforeLength: "Refusal 11 is tested before refusal 2.",
+    OddBeforePage: "A halfword store at an odd address of any other page is refused with 11.",
+    OnlyUsedMemoryJudged: "Of the memories, only the page's own is judged.",
+    RegistersJudgedOnlyWhereUsed: "The registers are judged only where a byte goes to page 6.",
+    OddPaletteRefused: "A halfword store at an odd address of page 5 is refused with 11.",
+    OddOamRefused: "A halfword store at an odd address of page 7 is refused with 11.",
+    OddVideoMadeEven: "A halfword store at an odd address of page 6 clears bit 0.",
+    OddByteRefused: "A byte store at an odd address of page 6 is refused with 11.",
+
+    // Places.
+    RepeatsEvery2048: "Palette and OAM repeat every 2,048 bytes, and have nothing in the upper half.",
+    VideoRepeatsEvery18000: "Video memory repeats every 0x18000 bytes.",
+    UpperVideoStays: "Video offsets from 0x18000 on stay.",
+    ReadOfEvenByte: "A read gives the first byte of its halfword.",
+    OddKept: "On pages 5 and 7 bit 0 of a halfword store's address isn't cleared.",
+
+    // What a store writes.
+    OneHalfFilled: "A byte store changes its own byte alone.",
+    HalvesExchanged: "The high half of a halfword comes first.",
+    OamTakesBytes: "A byte stored to OAM is written.",
+    SpriteTilesTakeBytes: "A byte stored to sprite tiles is written.",
+    OamTakesNoHalfwords: "A halfword stored to OAM changes nothing.",
+    SpriteTilesTakeNoHalfwords: "A halfword stored to sprite tiles changes nothing.",
+    TilesTestedBeforeFolding: "The offset is tested against the start of sprite tiles before it loses 0x8000.",
+    BitmapIsMode3Alone: "Sprite tiles start at 0x14000 in mode 3 alone.",
+    BitmapFromMode4: "Sprite tiles start at 0x10000 in mode 3.",
+    Modes6And7AreText: "Sprite tiles start at 0x10000 in modes 6 and 7.",
+    TilesStartByNoMode: "Sprite tiles start at 0x10000 in every mode.",
+    ModeWithBitsAbove: "The mode is all of the first register's low byte.",
+}}
