@@ -2,18 +2,17 @@
 use Prim.Native.Nat.{ℕ, _+_, _-_, _*_, _/_, _%_, _<_, _≤_}
 use native.Mathlib.Omega.{arith}
 use mathlib.Core.Path.{_≡_, refl, sym, ap, subst, _∙_}
-use mathlib.Core.Bool.{Bool, true, false, cond, not, _&&_}
+use mathlib.Core.Bool.{Bool, true, false, not, _&&_}
 use mathlib.Core.List.{List, [], _∷_}
 use lib.Dec.{eqb, ltb}
 use lib.ListN.{length}
 use mir.Syntax.{w8, w32}
 use mir.Val.{Fits}
-use borrow.Author.Tests.{eqb-true, not-false, lt-ltb, le-ltb, ltb-true, ltb-false, ne-eqb, eq-eqb}
+use borrow.Author.Tests.{eqb-true, not-false, lt-ltb, le-ltb, ltb-true, ltb-false, ne-eqb}
 use Rattle.bits.specs.Bits.{bits}
 use Rattle.bits.proofs.Booleans.{and-both}
 use Rattle.rows.proofs.Words.{high-join}
 use Rattle.memory.specs.Sizes.{videoRamSize, paletteRamSize, oamSize}
-use Rattle.gpu_bus.specs.declared.Page.{Page}
 use Rattle.gpu_bus.specs.declared.Page.the-variants.{Palram, Vram, Oam, Other}
 use Rattle.gpu_bus.specs.Places.{pageOf, videoOffset, even}
 use Rattle.gpu_bus.specs.Memories.{Memories, memoriesOf, busLengths}

@@ -7,7 +7,7 @@ use mathlib.Core.Bool.{Bool, true, false}
 use mathlib.Core.List.{List, [], _∷_}
 use mathlib.Core.Logic.{_≢_}
 use lib.Dec.{ltb}
-use lib.ListN.{length, getD, set}
+use lib.ListN.{length, set}
 use lib.Seq.{set-set, set-comm}
 use borrow.Author.Tests.{ltb-true, ltb-false}
 use Rattle.rows.specs.Bytes.{bytesFrom, putFrom}

@@ -4,15 +4,15 @@ use native.Mathlib.Omega.{arith}
 use mathlib.Core.Path.{_≡_, refl, sym, ap, ap₂, _∙_}
 use mathlib.Core.Bool.{Bool, true, false, _&&_, cond, true≢false}
 use mathlib.Core.List.{List}
-use lib.Dec.{eqb, ltb}
+use lib.Dec.{ltb}
 use borrow.Author.Tests.{ltb-true, ltb-false, lt-ltb, le-ltb}
-use Rattle.bits.specs.Bits.{bits, bit}
+use Rattle.bits.specs.Bits.{bit}
 use Rattle.regs.specs.Registers.{dispcnt}
 use Rattle.regs.specs.Display.{mode}
 use Rattle.obj_sprites.specs.Tiles.{tilesStart}
 use Rattle.gpu_bus.specs.declared.Page.{Page}
 use Rattle.gpu_bus.specs.declared.Page.the-variants.{Palram, Vram, Oam, Other}
-use Rattle.gpu_bus.specs.Places.{Place, pageOf, isOther, isVideo, smallOffset, videoOffset, offsetIn, even, byteOf, placeOf}
+use Rattle.gpu_bus.specs.Places.{Place, pageOf, isVideo, videoOffset, offsetIn, even, byteOf, placeOf}
 use Rattle.gpu_bus.specs.Memories.{Memories}
 use Rattle.gpu_bus.specs.Read.{read8}
 use Rattle.gpu_bus.specs.Store.{Store, Store8, Store16, takesByte, isTaken, storeLengths, isOddHalfword, storeNumber, stored, store}

@@ -11,13 +11,17 @@ use Rattle.gpu.specs.Draw.{Drawing}
 use Rattle.gpu_records.specs.declared.affine.PairStep.{PairStep}
 use Rattle.gpu_draw_records.specs.Draw.{RecordDrawing}
 use Rattle.explain.proofs.Numbers.{reason-refused}
+use Rattle.gpu_bus.specs.Read.{refusedByte}
+use Rattle.gpu_bus.specs.Store.{Stored}
+use Rattle.gpu_bus.specs.declared.Byte.{Byte}
 use Rattle.thm_refusals.specs.Table.{Row}
-use Rattle.thm_refusals.specs.Demand1.{Judges, Blanks, Demand1, bytesTable, recordsTable, resetTable, stepTable, pairTable, explainTable}
+use Rattle.thm_refusals.specs.Demand1.{Judges, Blanks, Demand1, bytesTable, recordsTable, resetTable, stepTable, pairTable, explainTable, readTable, storeTable}
 use Rattle.thm_refusals.proofs.Tables.{firstOf, rises, judged-first}
 use Rattle.thm_refusals.proofs.Draws.{number-draw, draw-refused, draw-keeps, draw-blank}
 use Rattle.thm_refusals.proofs.Records.{number-records, records-refused, records-keeps, records-blank}
 use Rattle.thm_refusals.proofs.Explains.{number-explain, explain-blank}
 use Rattle.thm_refusals.proofs.Steps.{reset-fits, step-fits, pair-fits}
+use Rattle.thm_refusals.proofs.Bus.{read-fits, store-fits}
 
 -- A routine whose number is the first of its table, and which leaves what was lent where that isn't 0.
 judges : (table : List Row) {number : ℕ} {Unchanged : Type 0} → rises 0 table ≡ true → number ≡ firstOf table
@@ -63,4 +67,10 @@ demand-1 =
             (reason-refused c entries column r-is),
         explain-blank c entries column r-is,
       );
+      read8 = λ address m d.
+          subst (λ (b : Byte). Judges (readTable address m) (b .number) (b ≡ refusedByte (b .number))) (sym d)
+          (judges (readTable address m) refl (read-fits address m .0) (read-fits address m .1));
+      store = λ s m d.
+          subst (λ (a : Stored). Judges (storeTable s m) (a .number) (a .memories ≡ m)) (sym d)
+          (judges (storeTable s m) refl (store-fits s m .0) (store-fits s m .1));
     }

@@ -1,6 +1,6 @@
 -- Demand 1: every call returns, for all lengths and contents; each public routine judges its own input; a refused call gives
 -- its number from document 01 or 02 and changes no byte that was lent (01, "Numbers a draw may return", "What must change
--- shape"; 02, W-202). That every call returns is what the check of the routines says, whose contracts have no `requires`; a
+-- shape"; 02, W-202, W-205). That every call returns is what the check of the routines says, whose contracts have no `requires`; a
 -- buffer lent to be read can't be written; the rest is below. Assumes nothing.
 use Prim.Native.Nat.{ℕ, _<_}
 use mathlib.Core.Path.{_≡_}
@@ -31,6 +31,11 @@ use Rattle.gpu_draw_records.specs.Draw.{DrawsRecords}
 use Rattle.explain.specs.Reason.{refusedReason, blankReason}
 use Rattle.explain.specs.Explain.{Explains}
 use Rattle.explain.specs.declared.Reason.{Reason}
+use Rattle.gpu_bus.specs.Places.{pageOf, isOther}
+use Rattle.gpu_bus.specs.Memories.{Memories, busLengths}
+use Rattle.gpu_bus.specs.Read.{refusedByte, Reads}
+use Rattle.gpu_bus.specs.Store.{Store, addressOf, storeLengths, isOddHalfword, Stores}
+use Rattle.gpu_bus.specs.declared.Byte.{Byte}
 use Rattle.thm_refusals.specs.Table.{Row, row, NoneOf, Judged}
 
 -- ---- the tables
@@ -90,6 +95,18 @@ explainTable c entries column =
     drawTable c (lentLengths (c .memory) entries) (shapedRow entries)
     ++ (row 8 (leb displayWidth column) ∷ [])
 
+-- A byte read gives 2 for a wrong length, then 9 for any other page.
+abbrev pub readTable : ℕ → Memories → List Row
+readTable address m = row 2 (not (busLengths m)) ∷ row 9 (isOther (pageOf address)) ∷ []
+
+-- A store gives 2 for a wrong length, then 9 for any other page, then 11 for a halfword store at an odd address of page 6.
+abbrev pub storeTable : Store → Memories → List Row
+storeTable s m =
+    row 2 (not (storeLengths s m))
+    ∷ row 9 (isOther (pageOf (addressOf s)))
+    ∷ row 11 (isOddHalfword s)
+    ∷ []
+
 -- ---- the demand
 
 -- A call gives the number that its table gives, and where that isn't 0, what was lent is unchanged.
@@ -130,3 +147,10 @@ pub record Demand1 : Type 0 where
       → Judges (explainTable c entries column) (r .number) (r ≡ refusedReason (r .number))
       × (forceBlank (dispcnt (c .memory .registers)) ≡ true
       → NoneOf 3 (explainTable c entries column) → column < displayWidth → r ≡ blankReason)
+  -- Nothing is lent to be written: unchanged is that the value is 0.
+  pub read8 : (address : ℕ) (m : Memories) {b : Byte}
+      → Reads address m b
+      → Judges (readTable address m) (b .number) (b ≡ refusedByte (b .number))
+  pub store : (s : Store) (m : Memories) {number : ℕ} {left : Memories}
+      → Stores s m number left
+      → Judges (storeTable s m) number (left ≡ m)

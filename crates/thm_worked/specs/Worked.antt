@@ -1,5 +1,6 @@
 -- The examples that document 01 marks P (01, "Checked examples"), effects whose order matters though it may not look so (02,
--- W-201), and an odd tile number (02, W-203), as one table under a single statement. Assumes nothing.
+-- W-201), an odd tile number (02, W-203) and addresses of the bus (02, W-205), as one table under a single statement.
+-- Assumes nothing.
 use Prim.Native.Nat.{ℕ}
 use mathlib.Core.Path.{_≡_, refl}
 use mathlib.Core.Bool.{true, false, cond}
@@ -19,9 +20,12 @@ use Rattle.bg_regular.specs.Regular.{regularX, regularY, mapBlock, mapOffset}
 use Rattle.bg.specs.Bitmap.{bitmapPixel}
 use Rattle.obj_sprites.specs.Attrs.{objAttrs}
 use Rattle.obj_sprites.specs.Place.{xOf, yOf}
-use Rattle.obj_sprites.specs.Tiles.{ignoresLowestBit, tileNumber, tileBase}
+use Rattle.obj_sprites.specs.Tiles.{tilesStart, ignoresLowestBit, tileNumber, tileBase}
 use Rattle.obj_sprites.specs.declared.attrs.ObjAttrs.{ObjAttrs}
 use Rattle.sfx_effects.specs.Effects.{alpha, fade}
+use Rattle.gpu_bus.specs.declared.Page.the-variants.{Palram, Vram, Oam, Other}
+use Rattle.gpu_bus.specs.Places.{pageOf, videoOffset, offsetIn, byteOf, placeOf}
+use Rattle.gpu_bus.specs.Store.{Store8, takesByte, isTaken}
 
 -- Registers of zeros but for EVA, which is 31.
 abbrev eva31 : List ℕ
@@ -78,9 +82,19 @@ pub record Table : Type 0 where
   -- Tile 3, 256 colours, two-dimensional mapping: R 0x10060, H 0x10040.
   pub odd-tile-R : tileBase R TwoDimension tile3 ≡ 0x10060
   pub odd-tile-H : tileBase H TwoDimension tile3 ≡ 0x10040
+  -- Which byte an address reaches, and the place of an odd one; a page is eight bits; a byte stored at 0x06018000 is for 0x10000,
+  -- which takes it in mode 3 and not in mode 0.
+  pub palette-mirror : byteOf 0x05000401 ≡ record { page = Palram; offset = 1 }
+  pub video-folded : byteOf 0x06018000 ≡ record { page = Vram; offset = 0x10000 }
+  pub video-last : byteOf 0x06ffffff ≡ record { page = Vram; offset = 0x17fff }
+  pub oam-odd : placeOf 0x07000403 ≡ record { page = Oam; offset = 2 }
+  pub page-of-eight-bits : pageOf 0x15000000 ≡ Other
+  pub byte-in-mode-3 : isTaken (Store8 (3 ∷ 0 ∷ []) 0x06018000 1) ≡ true
+  pub byte-in-mode-0 : isTaken (Store8 (0 ∷ 0 ∷ []) 0x06018000 1) ≡ false
 
 pub table : Table
-unfolding yOf xOf objAttrs ignoresLowestBit tileNumber tileBase blendChannel blendWith alpha fade counted farEdge tab half bitmapPixel
+unfolding yOf xOf objAttrs ignoresLowestBit tileNumber tileBase blendChannel blendWith alpha fade counted farEdge tab half bitmapPixel pageOf videoOffset offsetIn byteOf
+    tilesStart takesByte isTaken
 table = record {
   y-last = refl;
   y-first-above = refl;
@@ -112,4 +126,11 @@ table = record {
   difference-after = (refl, refl);
   odd-tile-R = refl;
   odd-tile-H = refl;
+  palette-mirror = refl;
+  video-folded = refl;
+  video-last = refl;
+  oam-odd = refl;
+  page-of-eight-bits = refl;
+  byte-in-mode-3 = refl;
+  byte-in-mode-0 = refl;
 }

@@ -1,6 +1,5 @@
 -- gpu_bus::video_offset meets its contract: each half of its test is a law of videoOffset.
 -- Assumes nothing.
-use native.Mathlib.Omega.{arith}
 use borrow.Author.Needs.{needs}
 use Rattle.gpu_bus.proofs.Offsets.{videoOffset-low, videoOffset-high}
 use Rattle.gpu_bus.proofs.video_offset.Statement.{statement}
