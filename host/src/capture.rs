@@ -14,7 +14,7 @@ use crate::exit::Refused;
 use crate::output::Staged;
 
 /// Video memory as the hardware has it; the Rust's memory above it stays 0.
-const VRAM_USED: usize = 0x18000;
+pub const VRAM_USED: usize = 0x18000;
 
 /// The files of a folder, with the lengths that they may have.
 const VRAM: (&str, &[usize]) = ("vram.bin", &[VRAM_LEN, VRAM_USED]);

@@ -26,6 +26,9 @@ fn every_mode_is_measured() {
     let reasons = lines.iter().find_map(|line| line.strip_prefix("a frame of reasons: ")).unwrap();
     let time = reasons.strip_suffix(" ms for 38400 columns").unwrap();
     assert!(time.parse::<f64>().unwrap() > 0.0, "{reasons}");
+    let stores = lines.iter().find_map(|line| line.strip_prefix("its memory built by the bus: ")).unwrap();
+    let time = stores.strip_suffix(" ms for 50176 stores").unwrap();
+    assert!(time.parse::<f64>().unwrap() > 0.0, "{stores}");
 }
 
 #[test]
@@ -38,7 +41,7 @@ fn json_has_the_same() {
     let ratios: Vec<f64> = rows.iter().map(|row| row["ratio"].as_f64().unwrap()).collect();
     let lowest = ratios.iter().copied().fold(f64::INFINITY, f64::min);
     assert_eq!(object["ratio"]["lowest"].as_f64(), Some(lowest));
-    for name in ["read_ms", "draw_ms", "png_ms", "reasons_ms", "process_ms"] {
+    for name in ["read_ms", "draw_ms", "png_ms", "reasons_ms", "stores_ms", "process_ms"] {
         assert!(object["frame"][name].as_f64().unwrap() > 0.0, "{name}");
     }
     let growth = object["growth"].as_array().unwrap();

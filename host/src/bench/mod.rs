@@ -9,11 +9,11 @@ use std::process::Command;
 use std::time::{Duration, Instant};
 
 use anyhow::{Context, Result, ensure};
-use ashlarkin::{ENTRIES_LEN, HEIGHT, WIDTH};
+use ashlarkin::{ENTRIES_LEN, HEIGHT, Memories, OAM_LEN, PALETTE_LEN, WIDTH};
 use ashlarkin_oracle::cases::{Cases, Draw, Kind};
 use serde_json::{Value, json};
 
-use crate::capture::Capture;
+use crate::capture::{Capture, VRAM_USED};
 use crate::exit::{Exit, say};
 use crate::frame::{self, Reading};
 use crate::output;
@@ -24,6 +24,8 @@ const SCENE: &[u8] = include_bytes!("../../../samples/scene/capture.state.png");
 
 const SEED: u64 = 1;
 const MODES: u16 = 6;
+/// How many halfwords the bus reaches.
+const HALFWORDS: usize = (VRAM_USED + PALETTE_LEN + OAM_LEN) / 2;
 /// Generated cases for each mode.
 const CASES: usize = 48;
 
@@ -58,6 +60,8 @@ struct Cost {
     png: f64,
     /// Every column explained; the Rust has no such thing to be timed against.
     reasons: f64,
+    /// Its memory built from zeros, a store for each halfword that the bus reaches.
+    stores: f64,
     process: f64,
 }
 
@@ -124,6 +128,7 @@ fn cost() -> Result<Cost> {
         draw: milliseconds(TIMES, || frame::draw(&capture, Reading::R).map(drop))?,
         png: milliseconds(TIMES, || frame.png(1).map(drop))?,
         reasons: milliseconds(REASONS_TIMES, || explain_all(&capture))?,
+        stores: milliseconds(TIMES, || build_all(&capture).map(|built| drop(black_box(built))))?,
         process: milliseconds(TIMES, || Ok(Command::new(&itself).arg("--version").output().map(drop)?))?,
     })
 }
@@ -139,6 +144,26 @@ fn explain_all(capture: &Capture) -> Result<()> {
         }
     }
     Ok(())
+}
+
+/// The halfwords that the bus reaches, each with its address.
+fn halfwords(capture: &Capture) -> impl Iterator<Item = (u32, u16)> + '_ {
+    let pages = [(0x0500_0000, &capture.palette), (0x0600_0000, &capture.vram), (0x0700_0000, &capture.oam)];
+    pages.into_iter().flat_map(|(page, memory)| {
+        let halves = memory[..memory.len().min(VRAM_USED)].chunks_exact(2);
+        (page..).step_by(2).zip(halves.map(|half| u16::from_le_bytes([half[0], half[1]])))
+    })
+}
+
+/// Builds the memory of a capture by stores.
+fn build_all(capture: &Capture) -> Result<Capture> {
+    let mut built = Capture::zeros(capture.registers.clone());
+    let Capture { vram, palette, oam, .. } = &mut built;
+    let mut memories = Memories { vram, palette, oam };
+    for (address, value) in halfwords(capture) {
+        ashlarkin::store16(address, value, &mut memories)?;
+    }
+    Ok(built)
 }
 
 /// The median time of one run.
@@ -179,11 +204,12 @@ impl Report {
             lines.push(heading(&format!("lines a second, {name}")));
             lines.extend(rows.iter().map(Row::text));
         }
-        if let Some(Cost { read, draw, png, reasons, process }) = self.cost {
+        if let Some(Cost { read, draw, png, reasons, stores, process }) = self.cost {
             lines.push(format!(
                 "a frame of the sample scene: {read:.2} ms read, {draw:.2} ms drawn, {png:.2} ms made a PNG"
             ));
             lines.push(format!("a frame of reasons: {reasons:.2} ms for {} columns", HEIGHT as usize * WIDTH));
+            lines.push(format!("its memory built by the bus: {stores:.2} ms for {HALFWORDS} stores"));
             lines.push(format!("a process that draws nothing: {process:.2} ms"));
         }
         if let Some((lowest, middle)) = self.summary() {
@@ -202,8 +228,11 @@ impl Report {
         let rows = |rows: &[Row]| rows.iter().map(Row::json).collect::<Vec<Value>>();
         let growth = self.growth.iter().map(|(name, points)| json!({ "name": name, "points": rows(points) }));
         let cost = |cost: &Cost| {
-            let Cost { read, draw, png, reasons, process } = cost;
-            json!({ "read_ms": read, "draw_ms": draw, "png_ms": png, "reasons_ms": reasons, "process_ms": process })
+            let Cost { read, draw, png, reasons, stores, process } = cost;
+            json!({
+                "read_ms": read, "draw_ms": draw, "png_ms": png, "reasons_ms": reasons, "stores_ms": stores,
+                "process_ms": process,
+            })
         };
         let ratio = self.summary().map(|(lowest, middle)| json!({ "median": middle, "lowest": lowest.ratio() }));
         json!({
@@ -213,5 +242,17 @@ impl Report {
             "ratio": ratio,
         })
         .to_string()
+    }
+}
+
+#[cfg(test)]
+mod tests {
+    use super::*;
+
+    #[test]
+    fn what_is_built_is_the_capture() {
+        let capture = Capture::of_state(SCENE).unwrap();
+        assert_eq!(halfwords(&capture).count(), HALFWORDS);
+        assert!(build_all(&capture).unwrap() == capture);
     }
 }
