@@ -1,6 +1,6 @@
 //! Makes the list of calls and answers that the program of crates/run_replay runs through the proved routines. The answers
-//! are the oracle's, and for reasons those of oracle/src/reasons.rs; the calls are the generator's under a fixed seed, so
-//! the list comes out the same each time.
+//! are the oracle's, and for reasons those of oracle/src/reasons.rs; the calls are the generator's under a fixed seed, and
+//! reads and stores the ones below, so the list comes out the same each time.
 //!
 //!     cargo run -q --release -p ashlarkin-oracle --example replay_list > crates/run_replay/stdin
 //!
@@ -35,6 +35,18 @@ const COLUMNS: RangeInclusive<u32> = 0..=240;
 /// Room for references of another length.
 const REFERENCES_ROOM: usize = 32;
 
+/// What reads and stores are lent of video memory, palette, OAM and, for bytes stored, registers.
+const LENGTHS: [usize; 4] = [VRAM_LEN, PALETTE_LEN, OAM_LEN, REGISTERS_LEN];
+
+/// Where the pages start, and some others, of which three have the low four bits of such a page.
+const PALETTE_PAGE: u32 = 0x0500_0000;
+const VRAM_PAGE: u32 = 0x0600_0000;
+const OAM_PAGE: u32 = 0x0700_0000;
+const OTHER_PAGES: [u32; 6] = [0x0000_0000, 0x0400_0000, 0x0800_0000, 0x1500_0000, 0x2600_0000, 0x8700_0000];
+
+/// Where sprite tiles start by the mode, where both starts come once more, and where video memory does.
+const EDGES: [u32; 5] = [0x1_0000, 0x1_4000, 0x1_8000, 0x1_c000, 0x2_0000];
+
 const SAMPLE: &[u8] = include_bytes!("../../samples/scene/capture.ss0");
 
 /// What a record calls.
@@ -44,6 +56,9 @@ enum Call {
     Step,
     Reset,
     Explain,
+    Read8,
+    Store8,
+    Store16,
 }
 
 /// What a record is for.
@@ -59,9 +74,13 @@ enum Group {
     Steps,
     Resets,
     Reasons,
+    ByteReads,
+    ByteStores,
+    HalfwordStores,
 }
 
-/// The records so far, and the buffers as the last one leaves them.
+/// The records so far, and the buffers as the last one leaves them; the memories are those that reads and stores are lent,
+/// and the value the last that was stored.
 struct List {
     oracle: Oracle,
     images: Vec<Arc<[u8]>>,
@@ -69,6 +88,8 @@ struct List {
     memory: Vec<u8>,
     entries: Vec<u8>,
     output: Vec<u8>,
+    memories: Memories,
+    value: u16,
     explained: Explained,
 }
 
@@ -122,6 +143,11 @@ fn replace(buffer: &mut [u8], bytes: &[u8]) -> bool {
     changed
 }
 
+/// So much of a buffer as is lent, at most a byte more than it has.
+fn cut(buffer: &[u8], len: usize) -> Vec<u8> {
+    [buffer, &[0]].concat()[..len].to_vec()
+}
+
 /// Palette, OAM and registers, one after another.
 fn memory(draw: &Draw) -> Vec<u8> {
     [&draw.palette[..], &draw.oam, &draw.registers].concat()
@@ -129,6 +155,7 @@ fn memory(draw: &Draw) -> Vec<u8> {
 
 impl List {
     fn new(images: Vec<Arc<[u8]>>) -> List {
+        let vram = images[0][..VRAM_LEN].into();
         List {
             oracle: Oracle::new(),
             bytes: images.concat(),
@@ -136,6 +163,8 @@ impl List {
             memory: vec![0; 2 * (PALETTE_LEN + OAM_LEN + REGISTERS_LEN)],
             entries: vec![0; 2 * ENTRIES_LEN],
             output: vec![0; 2 * OUTPUT_LEN],
+            memories: Memories { vram, palette: [0; PALETTE_LEN].into(), oam: [0; OAM_LEN].into() },
+            value: 0,
             explained: Explained::default(),
         }
     }
@@ -235,7 +264,6 @@ impl List {
         self.reset(ENTRIES_LEN);
         self.draw(Group::Lengths, draw, &reset_row(), OUTPUT_LEN);
         let row = self.entries.clone();
-        let cut = |buffer: &[u8], len| [buffer, &[0]].concat()[..len].to_vec();
         let lens = |len: usize| [0, len - 1, len + 1];
         for len in lens(VRAM_LEN) {
             self.draw(Group::Lengths, &Draw { vram_len: len, ..draw.clone() }, &row[..ENTRIES_LEN], OUTPUT_LEN);
@@ -260,6 +288,104 @@ impl List {
         }
         for len in [0, 1, ENTRIES_LEN - 1, ENTRIES_LEN, ENTRIES_LEN + 1, 2 * ENTRIES_LEN] {
             self.reset(len);
+        }
+    }
+
+    /// A read or a store with so much lent; low is the low byte of DISPCNT.
+    fn access(&mut self, access: Access, address: u32, low: u8, lengths: [usize; 4]) {
+        let [vram, palette, oam, registers] = lengths;
+        let mut memories = Memories {
+            vram: cut(&self.memories.vram, vram).into(),
+            palette: cut(&self.memories.palette, palette).into(),
+            oam: cut(&self.memories.oam, oam).into(),
+        };
+        let mut lent = vec![low];
+        lent.resize(registers, 0);
+        let (answer, byte) = self.oracle.access(access, address, &lent, &mut memories);
+        let number = number(answer);
+        if number == 0 {
+            self.memories = memories;
+        }
+        let (call, group, value) = match access {
+            Access::Read8 => (Call::Read8, Group::ByteReads, byte.into()),
+            Access::Store8(value) => (Call::Store8, Group::ByteStores, value.into()),
+            Access::Store16(value) => (Call::Store16, Group::HalfwordStores, value.into()),
+        };
+        let [vram, palette, oam, registers] = lengths.map(|len| len as u32);
+        let rest = [0, 0, address, value, low.into(), 0, 0, vram, palette, oam, registers, 0, 0];
+        self.record(call, group, number, rest, &[]);
+    }
+
+    fn read(&mut self, address: u32) {
+        self.access(Access::Read8, address, 0, LENGTHS);
+    }
+
+    /// The next value to store.
+    fn value(&mut self) -> u16 {
+        self.value = self.value.wrapping_add(0x4d35);
+        self.value
+    }
+
+    /// Bytes stored on both sides of each edge in each mode, with other bits of DISPCNT set too, and both halfwords read
+    /// where video memory repeats.
+    fn edges(&mut self) {
+        for (mode, edge) in (0..8).flat_map(|mode| EDGES.map(|edge| (mode, edge))) {
+            for offset in [edge - 1, edge] {
+                let store = Access::Store8(self.value() as u8);
+                self.access(store, VRAM_PAGE + offset, 0x19 * mode as u8, LENGTHS);
+            }
+            for offset in edge - 2..edge + 2 {
+                self.read(VRAM_PAGE + 0x2_0000 * mode + offset);
+            }
+        }
+    }
+
+    /// A store, and reads of its halfword, of the bytes on both sides, and of where the memory repeats.
+    fn store(&mut self, store: Access, address: u32) {
+        self.access(store, address, 0, LENGTHS);
+        let page = address & 0xff00_0000;
+        let size = if page == VRAM_PAGE { 0x2_0000 } else { 0x400 };
+        let first = address & !1;
+        for place in [first, first + 1, first - 1, first + 2, first + size] {
+            self.read(page | place & 0x00ff_ffff);
+        }
+    }
+
+    /// Halfwords, and then bytes in mode 0, stored at both ends of each memory and where it repeats.
+    fn stores(&mut self) {
+        let small = [1, 0x200, 0x7fe, 0xff_ffff];
+        let large = [0, 0x1_7ffe, 0x1_8000, 0xff_fffe];
+        for (page, offsets) in [(PALETTE_PAGE, small), (VRAM_PAGE, large), (OAM_PAGE, small)] {
+            for offset in offsets {
+                let [halfword, byte] = [self.value(), self.value()];
+                self.store(Access::Store16(halfword), page + offset);
+                self.store(Access::Store8(byte as u8), page + offset);
+            }
+        }
+    }
+
+    /// Each call with each memory a byte short and a byte long, where other refusals hold too, and at other pages;
+    /// halfwords stored at odd addresses of video memory; and reads of where all that would have stored.
+    fn refusals(&mut self) {
+        for (access, memories) in [(Access::Read8, 3), (Access::Store8(0x5a), 4), (Access::Store16(0x5aa5), 3)] {
+            for memory in 0..memories {
+                let mut lengths = LENGTHS;
+                lengths[memory] -= 1;
+                self.access(access, VRAM_PAGE + 1, 0, lengths);
+                lengths[memory] += 2;
+                self.access(access, OTHER_PAGES[memory] + 1, 0, lengths);
+            }
+            for page in OTHER_PAGES {
+                self.access(access, page + 1, 0, LENGTHS);
+            }
+        }
+        for offset in [1, 0x1_0001, 0x1_ffff, 0xff_ffff] {
+            self.access(Access::Store16(0x5aa5), VRAM_PAGE + offset, 0, LENGTHS);
+        }
+        for page in [PALETTE_PAGE, VRAM_PAGE, OAM_PAGE] {
+            for offset in [0, 1, 0x1_0000, 0x1_0001, 0xff_fffe, 0xff_ffff] {
+                self.read(page + offset);
+            }
         }
     }
 }
@@ -356,5 +482,8 @@ fn main() {
         list.step(steps, references);
     }
     assert_eq!(list.explained.shown.len(), FACTS);
+    list.edges();
+    list.stores();
+    list.refusals();
     stdout().write_all(&list.bytes).expect("standard output");
 }

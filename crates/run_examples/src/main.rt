@@ -1,12 +1,17 @@
 // The examples of document 01 without a P, one for each of its errors that look right, and some of why a column has its
-// colour (document 02), by the exported routines. Each line says what a draw returned and its pixels 0 and 1, or a reason's
-// fields; the file stdout has what the documents expect. The backdrop is green, 0x00f800, and the output's bytes start as
-// 0xaa, so a refused draw shows 0xaaaaaaaa.
+// colour and of reads and stores (document 02), by the exported routines. Each line says what a draw returned and its pixels
+// 0 and 1, or a reason's fields, or what a store returned and left, or what was read; the file stdout has what the documents
+// expect. The backdrop is green, 0x00f800. The bytes of the output and of what is stored to start as 0xaa, so a refused draw
+// shows 0xaaaaaaaa.
 use ashlarkin::ashlarkin_draw;
 use ashlarkin::ashlarkin_explain;
+use ashlarkin::ashlarkin_read8;
 use ashlarkin::ashlarkin_reset;
 use ashlarkin::ashlarkin_step;
+use ashlarkin::ashlarkin_store8;
+use ashlarkin::ashlarkin_store16;
 use explain::Reason;
+use gpu_bus::Byte;
 
 const VIDEO_RAM_SIZE: usize = 0x20000;
 
@@ -319,6 +324,128 @@ fn reasons() {
     print_reason(b"why, column 240", explain_backdrop(blank, 240));
 }
 
+// What a store returned, and the bytes that were read at two addresses afterwards.
+struct Stored {
+    number: u32,
+    at: u32,
+    first: u32,
+    second: u32,
+}
+
+fn after_store(number: u32, at: u32, vram: &[u8], palette: &[u8], oam: &[u8]) -> Stored {
+    let first = ashlarkin_read8(at, vram, palette, oam);
+    let next = std::num::wrapping_add_u32(at, 1);
+    let second = ashlarkin_read8(next, vram, palette, oam);
+    Stored {
+        number,
+        at,
+        first: first.value,
+        second: second.value,
+    }
+}
+
+// The byte 0x12 stored in a mode, and the bytes from an address on.
+fn store_byte(address: u32, mode: u8, at: u32) -> Stored {
+    let registers = backdrop_registers(mode, 0);
+    let mut vram = [0xaau8; VIDEO_RAM_SIZE];
+    let mut palette = [0xaau8; PALETTE_RAM_SIZE];
+    let mut oam = [0xaau8; OAM_SIZE];
+    let number = ashlarkin_store8(address, 0x12, &registers, &mut vram, &mut palette, &mut oam);
+    after_store(number, at, &vram, &palette, &oam)
+}
+
+// The halfword 0x3412 stored, and the bytes from an address on.
+fn store_halfword(address: u32, at: u32) -> Stored {
+    let mut vram = [0xaau8; VIDEO_RAM_SIZE];
+    let mut palette = [0xaau8; PALETTE_RAM_SIZE];
+    let mut oam = [0xaau8; OAM_SIZE];
+    let number = ashlarkin_store16(address, 0x3412, &mut vram, &mut palette, &mut oam);
+    after_store(number, at, &vram, &palette, &oam)
+}
+
+fn print_byte(byte: u32) {
+    io::write_all(1, b" 0x");
+    io::print_hex(1, byte as u64, 2);
+}
+
+fn print_stored(name: &[u8], stored: Stored) {
+    print_number(name, stored.number);
+    io::write_all(1, b", bytes from 0x");
+    io::print_hex(1, stored.at as u64, 8);
+    print_byte(stored.first);
+    print_byte(stored.second);
+    io::write_all(1, b"\n");
+}
+
+// 0x06018000 is 0x06010000 again. There sprite tiles start in mode 0, and take no byte; in mode 3 they start 0x4000 later.
+fn bytes() {
+    print_stored(
+        b"byte to 0x06018000, mode 3",
+        store_byte(0x0601_8000, 3, 0x0601_0000),
+    );
+    print_stored(
+        b"byte to 0x06018000, mode 0",
+        store_byte(0x0601_8000, 0, 0x0601_0000),
+    );
+    print_stored(
+        b"byte to 0x05000401",
+        store_byte(0x0500_0401, 0, 0x0500_0000),
+    );
+    print_stored(
+        b"byte to 0x07000400",
+        store_byte(0x0700_0400, 0, 0x0700_0000),
+    );
+    print_stored(
+        b"byte to 0x15000000",
+        store_byte(0x1500_0000, 0, 0x0500_0000),
+    );
+}
+
+// Odd addresses are refused in video memory alone.
+fn halfwords() {
+    print_stored(
+        b"halfword to 0x06018000",
+        store_halfword(0x0601_8000, 0x0601_0000),
+    );
+    print_stored(
+        b"halfword to 0x06000001",
+        store_halfword(0x0600_0001, 0x0600_0000),
+    );
+    print_stored(
+        b"halfword to 0x05000001",
+        store_halfword(0x0500_0001, 0x0500_0000),
+    );
+    print_stored(
+        b"halfword to 0x07000400",
+        store_halfword(0x0700_0400, 0x0700_0000),
+    );
+}
+
+fn read_byte(address: u32, palette: &[u8]) -> Byte {
+    let vram = [0u8; VIDEO_RAM_SIZE];
+    let oam = [0u8; OAM_SIZE];
+    ashlarkin_read8(address, &vram, palette, &oam)
+}
+
+fn print_read(name: &[u8], read: Byte) {
+    print_number(name, read.number);
+    io::write_all(1, b", byte");
+    print_byte(read.value);
+    io::write_all(1, b"\n");
+}
+
+// The palette's first byte is 0xe0. Lengths are judged before the page.
+fn reads() {
+    let palette = colours();
+    let short = [0u8; PALETTE_RAM_SIZE - 1];
+    print_read(b"read of 0x05000400", read_byte(0x0500_0400, &palette));
+    print_read(b"read of 0x15000000", read_byte(0x1500_0000, &palette));
+    print_read(
+        b"read of 0x15000000, palette short",
+        read_byte(0x1500_0000, &short),
+    );
+}
+
 fn main() {
     lines();
     modes();
@@ -329,4 +456,7 @@ fn main() {
     window_marks();
     negative_point();
     reasons();
+    bytes();
+    halfwords();
+    reads();
 }

@@ -1,5 +1,5 @@
 // The oracle's answer beside what a routine gave.
-ghost use mathlib.Core.List.{[]};
+ghost use mathlib.Core.List.{[], _∷_};
 ghost use Rattle.run_replay.specs.Same.{SameOnlyIf};
 use crate::list::REASON_SIZE;
 use crate::list::ROW_ROOM;
@@ -110,4 +110,18 @@ pub(crate) fn compare_fields(
         Found::Entries(place) => Found::Field(place / 4 + 1),
         other => other,
     }
+}
+
+// The same of a byte that was read, field 1 behind its number.
+pub(crate) fn compare_byte(number: u32, value: u32, oracle_number: u32, oracle_value: u32) -> Found
+    ensures { λ f.
+        ⌜ SameOnlyIf f number (value ∷ []) [] «oracle_number» («oracle_value» ∷ []) [] ⌝ }
+{
+    if number != oracle_number {
+        return Found::Number(number);
+    }
+    if value != oracle_value {
+        return Found::Field(1);
+    }
+    Found::Same
 }

@@ -43,15 +43,33 @@ pub(crate) const OUTPUT: usize = 16;
 
 pub(crate) const COLUMN: usize = 16;
 
-// The calls; any other number is a reset.
+// Of a read or a store.
+pub(crate) const ADDRESS: usize = 6;
+
+pub(crate) const VALUE: usize = 7;
+
+pub(crate) const DISPCNT: usize = 8;
+
+// The calls; 2 is a reset, and 6 a halfword store.
 pub(crate) const DRAW: u32 = 0;
 
 pub(crate) const STEP: u32 = 1;
 
 pub(crate) const EXPLAIN: u32 = 3;
 
+pub(crate) const READ8: u32 = 4;
+
+pub(crate) const STORE8: u32 = 5;
+
 // Room for buffers of twice their length, which a draw refuses; palette, OAM and registers share theirs.
 pub(crate) const MEMORY_ROOM: usize = 4268;
+
+// The same for what reads and stores are lent.
+pub(crate) const PALETTE_ROOM: usize = 2048;
+
+pub(crate) const OAM_ROOM: usize = 2048;
+
+pub(crate) const REGISTERS_ROOM: usize = 172;
 
 pub(crate) const ROW_ROOM: usize = 1920;
 

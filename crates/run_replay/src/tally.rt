@@ -4,19 +4,19 @@ use crate::list::word;
 use crate::print_text;
 
 // Where each count starts.
-const NUMBERS: usize = 10;
+const NUMBERS: usize = 13;
 
-const MODES: usize = 19;
+const MODES: usize = 25;
 
-const BLANK: usize = 27;
+const BLANK: usize = 33;
 
-const WINDOWS: usize = 28;
+const WINDOWS: usize = 34;
 
-const EFFECTS: usize = 36;
+const EFFECTS: usize = 42;
 
-const CALLS: usize = 40;
+const CALLS: usize = 46;
 
-pub(crate) const COUNTS: usize = 41;
+pub(crate) const COUNTS: usize = 47;
 
 // Where the registers lie that stand behind a palette and an OAM.
 const DISPCNT: usize = 0x800;
@@ -74,7 +74,10 @@ buffers of another length: #
 steps: #
 resets: #
 reasons: #
-numbers 0 to 8: # # # # # # # # #
+byte reads: #
+byte stores: #
+halfword stores: #
+numbers 0 to 11: # # # # # # # # # # # #
 lines of modes 0 to 7, of forced blank: # # # # # # # # #
 lines by the window switches 0 to 7: # # # # # # # #
 lines by the effects 0 to 3: # # # #

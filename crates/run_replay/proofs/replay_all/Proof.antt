@@ -6,11 +6,11 @@ use Rattle.run_replay.proofs.replay_all.Statement.{statement}
 use Rattle.run_replay.proofs.replay_all.Tie as tie
 
 abbrev Inv-loop : tie.InvT-loop
-Inv-loop images counts₀ head₀ memory₀ entries₀ output₀ k₀ counts head memory entries output k =
+Inv-loop images₀ counts₀ head₀ palette₀ oam₀ memory₀ entries₀ output₀ k₀ images counts head palette oam memory entries output k =
     Unit {0}
 
 abbrev μ-loop : tie.MeasureT-loop
-μ-loop images counts₀ head₀ memory₀ entries₀ output₀ k₀ counts head memory entries output k =
+μ-loop images₀ counts₀ head₀ palette₀ oam₀ memory₀ entries₀ output₀ k₀ images counts head palette oam memory entries output k =
     1_000_000 - k
 
 pub replay-all-spec : {M : Type 1} → statement M
