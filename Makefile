@@ -5,6 +5,10 @@
 BUILT := host/target/release
 FRAMES := host/target/frames
 
+# One crate more at a time than there are processors: `rt` waits for all that run before it starts the next, and one more
+# fills the wait.
+export RT_JOBS ?= $(shell expr $$(nproc) + 1)
+
 # What is run and tested is the archive built here, even where ASHLARKIN_LIB_DIR names another.
 unexport ASHLARKIN_LIB_DIR
 
@@ -31,7 +35,7 @@ test: setup host-tests compare oracle-tests c-tests
 setup:
 	@tools/setup
 
-# Proves the library, two crates at a time, and writes target/staticlib/libashlarkin.a, which the host links.
+# Proves the library and writes target/staticlib/libashlarkin.a, which the host links.
 library: setup
 	@rt check ashlarkin
 	@rt staticlib ashlarkin
