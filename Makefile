@@ -12,7 +12,7 @@ export RT_JOBS ?= $(shell expr $$(nproc) + 1)
 # What is run and tested is the archive built here, even where ASHLARKIN_LIB_DIR names another.
 unexport ASHLARKIN_LIB_DIR
 
-.PHONY: run test setup library host host-tests compare oracle-tests c-tests coverage bench picture
+.PHONY: run test setup tidy proofs library host host-tests compare oracle-tests c-tests coverage bench picture
 
 run: host
 	@rm -rf $(FRAMES)
@@ -20,9 +20,13 @@ run: host
 	@echo 'drawn by the proved library, reading H:'
 	@find $(FRAMES) -name '*.png' | sort
 
-# `rt ci` stands last: its last line is the verdict, and is printed only if nothing before it failed and each must-fail
-# edit was refused at a fact.
-test: setup host-tests compare oracle-tests c-tests
+# The proofs come before the tests, which link the library that they leave proved. `rt ci`'s last line is the verdict: it is
+# printed once more at the very end, where nothing has failed and each must-fail edit was refused at a fact.
+test: setup tidy proofs host-tests compare oracle-tests c-tests
+	@tail -n 1 host/target/ci.txt
+
+# What takes seconds: layout, contracts, documents, and the tools that hold them.
+tidy: setup
 	@rt fmt --check
 	@tools/contracts
 	@tools/definitions
@@ -30,6 +34,8 @@ test: setup host-tests compare oracle-tests c-tests
 	@tools/crates --check
 	@tools/test-tools
 	@tools/test-edits
+
+proofs: setup
 	@tools/ci
 
 setup:
