@@ -16,14 +16,14 @@ use Rattle.regs.specs.Display.{mode, DisplayControlOf}
 use Rattle.regs.specs.declared.DisplayControl.{DisplayControl}
 use Rattle.obj_sprites.specs.Tiles.{tilesStart}
 use Rattle.gpu_bus.specs.declared.Byte.{Byte}
-use Rattle.gpu_bus.specs.declared.Page.{Page}
-use Rattle.gpu_bus.specs.declared.Page.the-variants.{Palram, Vram, Oam, Other}
-use Rattle.gpu_bus.specs.Places.{pageOf, isOther, isVideo, smallOffset, videoOffset, offsetIn, even, byteOf}
+use Rattle.gpu_pages.specs.declared.Page.{Page}
+use Rattle.gpu_pages.specs.declared.Page.the-variants.{Palram, Vram, Oam, Other}
+use Rattle.gpu_pages.specs.Places.{pageOf, isOther, smallOffset, videoOffset, offsetIn, even, byteOf}
 use Rattle.gpu_bus.specs.Memories.{Memories, memoriesOf, busLengths, memoryOf, withMemory, putAtPlace}
 use Rattle.gpu_bus.specs.Read.{refusedByte, byteIn, read8, Reads}
 use Rattle.gpu_bus.specs.Store.{Store, Store8, Store16, addressOf, twoBytes, stored, takesByte, isTaken}
-use Rattle.gpu_bus.specs.Store.{storeLengths, isOddHalfword, storeNumber, store, Stores}
-use Rattle.gpu_bus.proofs.Offsets.{videoOffset-parity}
+use Rattle.gpu_bus.specs.Store.{storeLengths, isVideo, isOddHalfword, storeNumber, store, Stores}
+use Rattle.gpu_pages.proofs.Offsets.{videoOffset-parity}
 
 -- ---- reads
 

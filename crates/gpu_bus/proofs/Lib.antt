@@ -1,3 +1,3 @@
 -- Laws of the bus, for the proofs of this crate and of those above it. No contract cites them. Assumes nothing.
-pub mod Offsets
+pub mod Lengths
 pub mod Answers

@@ -1,5 +1,4 @@
--- Where an address of the bus falls, and what reads and stores give. Assumes nothing.
-pub mod Places
+-- What reads and stores give. Assumes nothing.
 pub mod Memories
 pub mod Read
 pub mod Store

@@ -6,9 +6,9 @@ use lib.Dec.{eqb}
 use lib.ListN.{length}
 use Rattle.rows.specs.Bytes.{putFrom}
 use Rattle.memory.specs.Sizes.{videoRamSize, paletteRamSize, oamSize}
-use Rattle.gpu_bus.specs.declared.Page.{Page}
-use Rattle.gpu_bus.specs.declared.Page.the-variants.{Palram, Vram, Oam, Other}
-use Rattle.gpu_bus.specs.Places.{Place}
+use Rattle.gpu_pages.specs.declared.Page.{Page}
+use Rattle.gpu_pages.specs.declared.Page.the-variants.{Palram, Vram, Oam, Other}
+use Rattle.gpu_pages.specs.Places.{Place}
 
 -- The memories, each as its bytes.
 pub record Memories : Type 0 where

@@ -5,7 +5,7 @@ use mathlib.Core.Bool.{cond, not}
 use mathlib.Core.List.{List}
 use Rattle.memory.specs.Memory.{byte}
 use Rattle.gpu_bus.specs.declared.Byte.{Byte}
-use Rattle.gpu_bus.specs.Places.{isOther, byteOf}
+use Rattle.gpu_pages.specs.Places.{isOther, byteOf}
 use Rattle.gpu_bus.specs.Memories.{Memories, busLengths, memoryOf}
 
 -- A refused read has value 0.

@@ -11,9 +11,9 @@ use Rattle.memory.specs.Sizes.{registersSize}
 use Rattle.regs.specs.Registers.{dispcnt}
 use Rattle.regs.specs.Display.{mode}
 use Rattle.obj_sprites.specs.Tiles.{tilesStart}
-use Rattle.gpu_bus.specs.declared.Page.{Page}
-use Rattle.gpu_bus.specs.declared.Page.the-variants.{Palram, Vram, Oam, Other}
-use Rattle.gpu_bus.specs.Places.{isOther, isVideo, pageOf, byteOf, placeOf}
+use Rattle.gpu_pages.specs.declared.Page.{Page}
+use Rattle.gpu_pages.specs.declared.Page.the-variants.{Palram, Vram, Oam, Other}
+use Rattle.gpu_pages.specs.Places.{isOther, pageOf, byteOf, placeOf}
 use Rattle.gpu_bus.specs.Memories.{Memories, busLengths, putAtPlace}
 
 -- A store of a byte, by the registers that are lent with it, or of a halfword.
@@ -54,6 +54,13 @@ isTaken (Store16 address value) = true
 unfoldable pub storeLengths : Store → Memories → Bool
 storeLengths (Store8 registers address value) m = busLengths m && eqb (length registers) registersSize
 storeLengths (Store16 address value) m = busLengths m
+
+-- Whether it is page 6.
+abbrev pub isVideo : Page → Bool
+isVideo Palram = false
+isVideo Vram = true
+isVideo Oam = false
+isVideo Other = false
 
 -- A halfword store at an odd address of page 6.
 unfoldable pub isOddHalfword : Store → Bool

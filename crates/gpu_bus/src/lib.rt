@@ -7,11 +7,15 @@ ghost use Rattle.rows.specs.Bytes.{putFrom};
 ghost use Rattle.memory.specs.Sizes.{registersSize};
 ghost use Rattle.regs.specs.Registers.{dispcnt};
 ghost use Rattle.regs.specs.Display.{mode};
-ghost use Rattle.gpu_bus.specs.declared.Page.the-variants.{Vram};
-ghost use Rattle.gpu_bus.specs.Places.{pageOf, smallOffset, videoOffset, even};
+ghost use Rattle.gpu_pages.specs.declared.Page.the-variants.{Vram};
 ghost use Rattle.gpu_bus.specs.Memories.{memoriesOf, busLengths};
 ghost use Rattle.gpu_bus.specs.Read.{refusedByte, byteIn, Reads};
 ghost use Rattle.gpu_bus.specs.Store.{Store8, Store16, twoBytes, takesByte, Stores};
+use gpu_pages::Page;
+use gpu_pages::even;
+use gpu_pages::page_of;
+use gpu_pages::small_offset;
+use gpu_pages::video_offset;
 use memory::OAM_SIZE;
 use memory::PALETTE_RAM_SIZE;
 use memory::REGISTERS_SIZE;
@@ -19,46 +23,11 @@ use memory::VIDEO_RAM_SIZE;
 use obj_sprites::obj_tiles_start;
 use regs::iodev::read_dispcnt;
 
-// The memory that an address reaches, by its page.
-pub enum Page {
-    Palram,
-    Vram,
-    Oam,
-    Other,
-}
-
 // What a byte read gives: 0 and the byte, or the number of the refusal and 0.
 #[repr(C)]
 pub struct Byte {
     pub number: u32,
     pub value: u32,
-}
-
-// The page of an address, its topmost byte.
-fn page_of(addr: u32) -> Page
-    ensures { λ p. ⌜ p ≡ pageOf addr ⌝ }
-{
-    match addr / 0x100_0000 {
-        5 => Page::Palram,
-        6 => Page::Vram,
-        7 => Page::Oam,
-        _ => Page::Other,
-    }
-}
-
-// The offset of an address in the palette or in OAM, which repeat.
-fn small_offset(addr: u32) -> usize
-    ensures { λ r. ⌜ (r ≡ smallOffset addr) × (r < 0x400) ⌝ }
-{
-    (addr % 0x400) as usize
-}
-
-// The offset of an address in video memory, whose last 32 KiB are those before them once more.
-fn video_offset(addr: u32) -> usize
-    ensures { λ r. ⌜ (r ≡ videoOffset addr) × (r < 0x18000) ⌝ }
-{
-    let ofs = (addr % 0x2_0000) as usize;
-    if ofs >= 0x1_8000 { ofs - 0x8000 } else { ofs }
 }
 
 // Whether each memory has its length.
@@ -101,13 +70,6 @@ pub fn read_8(addr: u32, vram: &[u8], palette: &[u8], oam: &[u8]) -> Byte
         Page::Oam => byte_in(oam, small_offset(addr)),
         Page::Other => refused(9),
     }
-}
-
-// Where the halfword of an offset starts: bit 0 is cleared.
-fn even(offset: usize) -> usize
-    ensures { λ r. ⌜ r ≡ even offset ⌝ }
-{
-    offset - offset % 2
 }
 
 // The halfword at `at` set, the low byte first.

@@ -11,18 +11,19 @@ use borrow.Author.Tests.{eqb-true}
 use Rattle.bits.proofs.Booleans.{and-both}
 use Rattle.rows.specs.Bytes.{putFrom}
 use Rattle.memory.specs.Memory.{byte}
-use Rattle.gpu_bus.specs.declared.Page.{Page}
-use Rattle.gpu_bus.specs.declared.Page.the-variants.{Palram, Vram, Oam, Other}
-use Rattle.gpu_bus.specs.Places.{Place, pageOf, isOther, offsetIn, even, byteOf, halfwordOf, placeOf}
+use Rattle.gpu_pages.specs.declared.Page.{Page}
+use Rattle.gpu_pages.specs.declared.Page.the-variants.{Palram, Vram, Oam, Other}
+use Rattle.gpu_pages.specs.Places.{Place, pageOf, isOther, offsetIn, even, byteOf, halfwordOf, placeOf}
 use Rattle.gpu_bus.specs.Memories.{Memories, busLengths, memoryOf, putAtPlace}
 use Rattle.gpu_bus.specs.Read.{byteIn, read8}
 use Rattle.gpu_bus.specs.Store.{Store, Store8, Store16, addressOf, stored, isTaken, storeLengths, isOddHalfword, storeNumber}
 use Rattle.gpu_bus.specs.Store.{isWritten, Stored, store}
-use Rattle.gpu_bus.proofs.Offsets.{sized-true, videoOffset-parity}
+use Rattle.gpu_pages.proofs.Offsets.{videoOffset-parity}
+use Rattle.gpu_bus.proofs.Lengths.{sized-true}
 use Rattle.thm_bus.specs.BusLaws.{storePlace, after, byteAt, storeAt, BusLaws}
 use Rattle.thm_bus.proofs.Bytes.{byte-put-same}
 use Rattle.thm_bus.proofs.Put.{memoryOf-put, lengths-put, put-again, put-apart, byte-apart, half-inside}
-use Rattle.thm_bus.proofs.Mirrors.{byteOf-small, byteOf-video, byteOf-last, read8-mirror, store-mirror, store-place}
+use Rattle.thm_bus.proofs.Mirrors.{byteOf-small, byteOf-video, byteOf-last, read8-mirror, store-place, odd-mirror}
 
 -- ---- what a store leaves
 
@@ -185,11 +186,22 @@ module _ (s : Store) (m : Memories) where
 
 -- ---- the laws
 
-mirror-store : (s : Store) (m : Memories) (address : ℕ) → byteOf address ≡ byteOf (addressOf s)
-    → store (storeAt address s) m ≡ store s m
+-- A store is the store at its own address.
+storeAt-own : (s : Store) → storeAt (addressOf s) s ≡ s
 unfolding storeAt
-mirror-store (Store8 registers old value) m address same = store-mirror address old same (Store8 registers old value) m
-mirror-store (Store16 old value) m address same = store-mirror address old same (Store16 old value) m
+storeAt-own (Store8 registers address value) = refl
+storeAt-own (Store16 address value) = refl
+
+module _ (s : Store) (m : Memories) (address : ℕ) where
+  same-place : placeOf address ≡ storePlace s → isOddHalfword (storeAt address s) ≡ isOddHalfword s
+      → store (storeAt address s) m ≡ store s m
+  same-place same odd =
+      store-place address (addressOf s) same s m (odd ∙ ap isOddHalfword (sym (storeAt-own s)))
+      ∙ ap (λ (t : Store). store t m) (storeAt-own s)
+
+  mirror-store : byteOf address ≡ byteOf (addressOf s) → store (storeAt address s) m ≡ store s m
+  mirror-store same =
+      same-place (ap halfwordOf same) (odd-mirror address (addressOf s) same s ∙ ap isOddHalfword (storeAt-own s))
 
 pub bus-laws : BusLaws
 bus-laws =
@@ -205,7 +217,7 @@ bus-laws =
       commutes = commutes;
       mirror-store = mirror-store;
       mirror-read = λ m a b same. read8-mirror a b same m;
-      either-byte = λ registers value m a b same. store-place registers value a b same m;
+      same-place = same-place;
       small-mirrors = byteOf-small;
       video-mirrors = byteOf-video;
       last-mirror = λ address here from to. byteOf-last address from to here;

@@ -13,7 +13,7 @@ use borrow.Author.Tests.{ltb-true, ltb-false}
 use Rattle.rows.specs.Bytes.{bytesFrom, putFrom}
 use Rattle.rows.proofs.Bytes.{bytesFrom-putFrom-same, bytesFrom-putFrom-before, bytesFrom-putFrom-past}
 use Rattle.memory.specs.Memory.{byte}
-use Rattle.gpu_bus.specs.Places.{even}
+use Rattle.gpu_pages.specs.Places.{even}
 
 -- A byte set before others that are put.
 set-putFrom : (l : List ℕ) (i j b : ℕ) (bs : List ℕ) → i < j → set (putFrom l j bs) i b ≡ putFrom (set l i b) j bs

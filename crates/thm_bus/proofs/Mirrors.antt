@@ -3,20 +3,19 @@ use Prim.Native.Nat.{ℕ, _+_, _-_, _*_, _/_, _%_, _≤_, _<_}
 use native.Mathlib.Omega.{arith}
 use mathlib.Core.Path.{_≡_, refl, sym, ap, ap₂, _∙_}
 use mathlib.Core.Bool.{Bool, true, false, _&&_, cond, true≢false}
-use mathlib.Core.List.{List}
 use lib.Dec.{ltb}
 use borrow.Author.Tests.{ltb-true, ltb-false, lt-ltb, le-ltb}
 use Rattle.bits.specs.Bits.{bit}
 use Rattle.regs.specs.Registers.{dispcnt}
 use Rattle.regs.specs.Display.{mode}
 use Rattle.obj_sprites.specs.Tiles.{tilesStart}
-use Rattle.gpu_bus.specs.declared.Page.{Page}
-use Rattle.gpu_bus.specs.declared.Page.the-variants.{Palram, Vram, Oam, Other}
-use Rattle.gpu_bus.specs.Places.{Place, pageOf, isVideo, videoOffset, offsetIn, even, byteOf, placeOf}
+use Rattle.gpu_pages.specs.declared.Page.{Page}
+use Rattle.gpu_pages.specs.declared.Page.the-variants.{Palram, Vram, Oam, Other}
+use Rattle.gpu_pages.specs.Places.{Place, pageOf, videoOffset, offsetIn, even, byteOf, placeOf}
 use Rattle.gpu_bus.specs.Memories.{Memories}
 use Rattle.gpu_bus.specs.Read.{read8}
-use Rattle.gpu_bus.specs.Store.{Store, Store8, Store16, takesByte, isTaken, storeLengths, isOddHalfword, storeNumber, stored, store}
-use Rattle.gpu_bus.proofs.Offsets.{videoOffset-low, videoOffset-high, videoOffset-parity}
+use Rattle.gpu_bus.specs.Store.{Store, Store8, Store16, takesByte, isTaken, storeLengths, isVideo, isOddHalfword, storeNumber, stored, store}
+use Rattle.gpu_pages.proofs.Offsets.{videoOffset-low, videoOffset-high, videoOffset-parity}
 use Rattle.thm_bus.specs.BusLaws.{storeAt}
 
 -- ---- the mirrors
@@ -90,12 +89,7 @@ module _ (a b : ℕ) (same : byteOf a ≡ byteOf b) where
   unfolding read8
   read8-mirror m = rw same
 
-  pub store-mirror : (s : Store) (m : Memories) → store (storeAt a s) m ≡ store (storeAt b s) m
-  unfolding store storeAt storeNumber storeLengths stored isTaken isOddHalfword
-  store-mirror (Store8 registers old value) m = rw (same, pages-same)
-  store-mirror (Store16 old value) m = rw (same, odd-same value, pages-same)
-
--- ---- a byte store asks for its place alone
+-- ---- a store asks for its place alone
 
 tilesStart-even : (mode : ℕ) → tilesStart mode % 2 ≡ 0
 unfolding tilesStart
@@ -119,13 +113,26 @@ takes-even mode Vram x y e = ltb-even x y (tilesStart mode) e (tilesStart-even m
 takes-even mode Oam x y e = refl
 takes-even mode Other x y e = refl
 
-module _ (registers : List ℕ) (value a b : ℕ) (same : placeOf a ≡ placeOf b) where
-  taken-same : isTaken (Store8 registers a value) ≡ isTaken (Store8 registers b value)
-  unfolding isTaken
-  taken-same =
-      takes-even (mode (dispcnt registers)) (byteOf a .page) (byteOf a .offset) (byteOf b .offset) (ap (λ (p : Place). p .offset) same)
-      ∙ ap (λ (p : Page). takesByte (mode (dispcnt registers)) p (byteOf b .offset)) (ap (λ (p : Place). p .page) same)
+module _ (a b : ℕ) (same : placeOf a ≡ placeOf b) where
+  page-same : byteOf a .page ≡ byteOf b .page
+  page-same = ap (λ (p : Place). p .page) same
 
-  pub store-place : (m : Memories) → store (Store8 registers a value) m ≡ store (Store8 registers b value) m
-  unfolding store storeNumber storeLengths stored isOddHalfword byteOf
-  store-place m = rw (taken-same, same, ap (λ (p : Place). p .page) same)
+  taken-same : (s : Store) → isTaken (storeAt a s) ≡ isTaken (storeAt b s)
+  unfolding storeAt isTaken
+  taken-same (Store8 registers old value) =
+      takes-even (mode (dispcnt registers)) (byteOf a .page) (byteOf a .offset) (byteOf b .offset) (ap (λ (p : Place). p .offset) same)
+      ∙ ap (λ (p : Page). takesByte (mode (dispcnt registers)) p (byteOf b .offset)) page-same
+  taken-same (Store16 old value) = refl
+
+  -- But for whether a halfword's address is odd.
+  pub store-place : (s : Store) (m : Memories) → isOddHalfword (storeAt a s) ≡ isOddHalfword (storeAt b s)
+      → store (storeAt a s) m ≡ store (storeAt b s) m
+  unfolding store storeAt storeNumber storeLengths stored byteOf
+  store-place (Store8 registers old value) m odd = rw (taken-same (Store8 registers old value), odd, same, page-same)
+  store-place (Store16 old value) m odd = rw (taken-same (Store16 old value), odd, same, page-same)
+
+module _ (a b : ℕ) (same : byteOf a ≡ byteOf b) where
+  pub odd-mirror : (s : Store) → isOddHalfword (storeAt a s) ≡ isOddHalfword (storeAt b s)
+  unfolding storeAt isOddHalfword
+  odd-mirror (Store8 registers old value) = refl
+  odd-mirror (Store16 old value) = odd-same a b same value

@@ -11,11 +11,12 @@ use borrow.Author.Tests.{ltb-true, ltb-false}
 use Rattle.rows.specs.Bytes.{putFrom}
 use Rattle.rows.proofs.Bytes.{length-putFrom}
 use Rattle.memory.specs.Memory.{byte}
-use Rattle.gpu_bus.specs.declared.Page.{Page}
-use Rattle.gpu_bus.specs.declared.Page.the-variants.{Palram, Vram, Oam, Other}
-use Rattle.gpu_bus.specs.Places.{isOther, even, offsetIn}
+use Rattle.gpu_pages.specs.declared.Page.{Page}
+use Rattle.gpu_pages.specs.declared.Page.the-variants.{Palram, Vram, Oam, Other}
+use Rattle.gpu_pages.specs.Places.{isOther, even, offsetIn}
 use Rattle.gpu_bus.specs.Memories.{Memories, memoriesOf, busLengths, memoryOf, withMemory}
-use Rattle.gpu_bus.proofs.Offsets.{Sized, videoOffset-bound}
+use Rattle.gpu_pages.proofs.Offsets.{videoOffset-bound}
+use Rattle.gpu_bus.proofs.Lengths.{Sized}
 use Rattle.thm_bus.proofs.Bytes.{putFrom-again, putFrom-comm, byte-put-other}
 
 -- The memories with bytes put in that of a page.

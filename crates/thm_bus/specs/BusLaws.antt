@@ -3,15 +3,14 @@
 use Prim.Native.Nat.{ℕ, _+_, _*_, _%_, _≤_, _<_}
 use mathlib.Core.Path.{_≡_}
 use mathlib.Core.Bool.{true, false}
-use mathlib.Core.List.{List}
 use mathlib.Core.Logic.{_≢_}
 use Rattle.memory.specs.Memory.{byte}
 use Rattle.gpu_bus.specs.declared.Byte.{Byte}
-use Rattle.gpu_bus.specs.declared.Page.the-variants.{Vram}
-use Rattle.gpu_bus.specs.Places.{Place, pageOf, isVideo, byteOf, halfwordOf, placeOf}
+use Rattle.gpu_pages.specs.declared.Page.the-variants.{Vram}
+use Rattle.gpu_pages.specs.Places.{Place, pageOf, byteOf, halfwordOf, placeOf}
 use Rattle.gpu_bus.specs.Memories.{Memories, memoryOf}
 use Rattle.gpu_bus.specs.Read.{byteIn, read8, Reads}
-use Rattle.gpu_bus.specs.Store.{Store, Store8, Store16, addressOf, stored, storeNumber, isWritten, store, Stores}
+use Rattle.gpu_bus.specs.Store.{Store, Store8, Store16, addressOf, stored, isVideo, isOddHalfword, storeNumber, isWritten, store, Stores}
 
 -- The place that a store is for.
 abbrev pub storePlace : Store → Place
@@ -54,9 +53,9 @@ pub record BusLaws : Type 0 where
   pub mirror-store : (s : Store) (m : Memories) (address : ℕ) → byteOf address ≡ byteOf (addressOf s)
       → store (storeAt address s) m ≡ store s m
   pub mirror-read : (m : Memories) (a b : ℕ) → byteOf a ≡ byteOf b → read8 a m ≡ read8 b m
-  -- A byte store doesn't ask which byte of its place it is for.
-  pub either-byte : (registers : List ℕ) (value : ℕ) (m : Memories) (a b : ℕ) → placeOf a ≡ placeOf b
-      → store (Store8 registers a value) m ≡ store (Store8 registers b value) m
+  -- A store asks for its place alone, and a halfword store of page 6 whether its address is odd, too.
+  pub same-place : (s : Store) (m : Memories) (address : ℕ) → placeOf address ≡ storePlace s
+      → isOddHalfword (storeAt address s) ≡ isOddHalfword s → store (storeAt address s) m ≡ store s m
   -- The mirrors: palette and OAM every 1,024 bytes, video memory every 128 KiB, and its last 32 KiB are those before them.
   pub small-mirrors : (address k : ℕ) → isVideo (pageOf address) ≡ false → pageOf (address + 0x400 * k) ≡ pageOf address
       → byteOf (address + 0x400 * k) ≡ byteOf address

@@ -5,7 +5,7 @@ use mathlib.Core.Bool.{Bool, true, false, cond, not, _&&_}
 use mathlib.Core.List.{[], _∷_}
 use mathlib.Core.Logic.{_≢_}
 use lib.Dec.{eqb}
-use Rattle.gpu_bus.specs.Places.{pageOf, isOther, byteOf, placeOf}
+use Rattle.gpu_pages.specs.Places.{pageOf, isOther, byteOf, placeOf}
 use Rattle.gpu_bus.specs.Memories.{Memories, busLengths, memoryOf, putAtPlace}
 use Rattle.gpu_bus.specs.Read.{refusedByte, byteIn, read8}
 use Rattle.gpu_bus.specs.Store.{Store, addressOf, stored, isTaken, storeLengths, isOddHalfword, storeNumber, store}

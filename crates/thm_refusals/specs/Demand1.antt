@@ -31,7 +31,7 @@ use Rattle.gpu_draw_records.specs.Draw.{DrawsRecords}
 use Rattle.explain.specs.Reason.{refusedReason, blankReason}
 use Rattle.explain.specs.Explain.{Explains}
 use Rattle.explain.specs.declared.Reason.{Reason}
-use Rattle.gpu_bus.specs.Places.{pageOf, isOther}
+use Rattle.gpu_pages.specs.Places.{pageOf, isOther}
 use Rattle.gpu_bus.specs.Memories.{Memories, busLengths}
 use Rattle.gpu_bus.specs.Read.{refusedByte, Reads}
 use Rattle.gpu_bus.specs.Store.{Store, addressOf, storeLengths, isOddHalfword, Stores}

@@ -23,8 +23,8 @@ use Rattle.obj_sprites.specs.Place.{xOf, yOf}
 use Rattle.obj_sprites.specs.Tiles.{tilesStart, ignoresLowestBit, tileNumber, tileBase}
 use Rattle.obj_sprites.specs.declared.attrs.ObjAttrs.{ObjAttrs}
 use Rattle.sfx_effects.specs.Effects.{alpha, fade}
-use Rattle.gpu_bus.specs.declared.Page.the-variants.{Palram, Vram, Oam, Other}
-use Rattle.gpu_bus.specs.Places.{pageOf, videoOffset, offsetIn, byteOf, placeOf}
+use Rattle.gpu_pages.specs.declared.Page.the-variants.{Palram, Vram, Oam, Other}
+use Rattle.gpu_pages.specs.Places.{pageOf, videoOffset, offsetIn, byteOf, placeOf}
 use Rattle.gpu_bus.specs.Store.{Store8, takesByte, isTaken}
 
 -- Registers of zeros but for EVA, which is 31.

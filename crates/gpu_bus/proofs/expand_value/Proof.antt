@@ -1,7 +1,7 @@
 -- gpu_bus::expand_value meets its contract: a byte taken 257 times has the byte in both halves.
 -- Assumes nothing.
 use borrow.Author.Needs.{needs}
-use Rattle.gpu_bus.proofs.Offsets.{twoBytes-expand}
+use Rattle.gpu_bus.proofs.Lengths.{twoBytes-expand}
 use Rattle.gpu_bus.proofs.expand_value.Statement.{statement}
 use Rattle.gpu_bus.proofs.expand_value.Tie as tie
 

@@ -1,7 +1,7 @@
 -- gpu_bus::read_8 meets its contract: a law for each return.
 -- Assumes nothing.
 use borrow.Author.Needs.{needs}
-use Rattle.gpu_bus.proofs.Offsets.{palette-inside, video-inside, oam-inside}
+use Rattle.gpu_bus.proofs.Lengths.{palette-inside, video-inside, oam-inside}
 use Rattle.gpu_bus.proofs.Answers.{reads-length, reads-palette, reads-video, reads-oam, reads-other}
 use Rattle.gpu_bus.proofs.read_8.Statement.{statement}
 use Rattle.gpu_bus.proofs.read_8.Tie as tie

@@ -1,7 +1,7 @@
 -- gpu_bus::write_16 meets its contract: a law for each return.
 -- Assumes nothing.
 use borrow.Author.Needs.{needs}
-use Rattle.gpu_bus.proofs.Offsets.{palette-half, video-next, oam-half}
+use Rattle.gpu_bus.proofs.Lengths.{palette-half, video-next, oam-half}
 use Rattle.gpu_bus.proofs.Answers.{half-length, half-odd, half-palette, half-video, half-oam, half-other}
 use Rattle.gpu_bus.proofs.write_16.Statement.{statement}
 use Rattle.gpu_bus.proofs.write_16.Tie as tie

@@ -1,7 +1,7 @@
 -- gpu_bus::write_8 meets its contract: a law for each return.
 -- Assumes nothing.
 use borrow.Author.Needs.{needs}
-use Rattle.gpu_bus.proofs.Offsets.{palette-half, video-half}
+use Rattle.gpu_bus.proofs.Lengths.{palette-half, video-half}
 use Rattle.gpu_bus.proofs.Answers.{byte-registers, byte-length, byte-palette, byte-video, byte-tiles, byte-oam, byte-other}
 use Rattle.gpu_bus.proofs.write_8.Statement.{statement}
 use Rattle.gpu_bus.proofs.write_8.Tie as tie

@@ -4,8 +4,8 @@ use Prim.Native.Nat.{ℕ, _-_, _%_}
 use mathlib.Core.Bool.{Bool, true, false, cond}
 use lib.Dec.{eqb, ltb}
 use Rattle.bits.specs.Bits.{bits}
-use Rattle.gpu_bus.specs.declared.Page.{Page}
-use Rattle.gpu_bus.specs.declared.Page.the-variants.{Palram, Vram, Oam, Other}
+use Rattle.gpu_pages.specs.declared.Page.{Page}
+use Rattle.gpu_pages.specs.declared.Page.the-variants.{Palram, Vram, Oam, Other}
 
 -- A page is all eight top bits of the address: 5 is the palette, 6 video memory, 7 OAM (GBA Memory Map).
 unfoldable pub pageOf : ℕ → Page
@@ -21,13 +21,6 @@ isOther Palram = false
 isOther Vram = false
 isOther Oam = false
 isOther Other = true
-
--- Whether it is page 6.
-abbrev pub isVideo : Page → Bool
-isVideo Palram = false
-isVideo Vram = true
-isVideo Oam = false
-isVideo Other = false
 
 -- Palette and OAM repeat every 1,024 bytes (GBA Memory Map).
 abbrev pub smallOffset : ℕ → ℕ

@@ -1,0 +1,2 @@
+-- Where an address of the bus falls. Assumes nothing.
+pub mod Places
