@@ -4,7 +4,7 @@ use std::path::Path;
 use std::{fs, io, str};
 
 use anyhow::{Context, Result, anyhow, bail, ensure};
-use ashlarkin::Memories;
+use ashlarkin::{Memories, Refusal};
 
 use crate::capture::{self, Capture, FILE_MAX, PARTS};
 use crate::exit::{Exit, Refused};
@@ -100,7 +100,10 @@ impl Store {
             Store::Halfword(address, value) => (address, ashlarkin::store16(address, value, memories)),
         };
         done.map_err(|refusal| {
-            let found = format!("0x{address:08x}: {}", refusal.meaning());
+            let found = match refusal {
+                Refusal::Page => format!("0x{address:08x}: page {}, expected 5, 6 or 7", address >> 24),
+                _ => format!("0x{address:08x}: {}", refusal.meaning()),
+            };
             Refused { refusal, line: None, found }.into()
         })
     }

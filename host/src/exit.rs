@@ -32,7 +32,7 @@ fn way_out(refusal: Refusal) -> &'static str {
         Refusal::Length => "make the capture again, whole",
         Refusal::Mode => "make the capture in one of the modes 0 to 5",
         Refusal::Brightness => "give --reading H, which counts it as 16",
-        Refusal::Page => "store to pages 5, 6 and 7, 0x05000000 to 0x07ffffff",
+        Refusal::Page => "give an address of 0x05000000 to 0x07ffffff",
         Refusal::OddAddress => "give the even address below or above it",
         Refusal::Reading
         | Refusal::Line

@@ -24,7 +24,7 @@ const _: () = assert!(size_of::<Byte>() == 8);
 /// Reads the byte at an address. The page is its top eight bits: 5 for the palette, 6 for video memory, 7 for OAM, each
 /// of which repeats to its page's end.
 ///
-/// It refuses a length, then any other page.
+/// It refuses a length, then any page but those three.
 ///
 /// ```
 /// use ashlarkin::Refusal;
