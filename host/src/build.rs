@@ -101,7 +101,7 @@ impl Store {
         };
         done.map_err(|refusal| {
             let found = match refusal {
-                Refusal::Page => format!("0x{address:08x}: page {}, expected 5, 6 or 7", address >> 24),
+                Refusal::Page => format!("0x{address:08x}: page 0x{:02x}, expected 0x05 to 0x07", address >> 24),
                 _ => format!("0x{address:08x}: {}", refusal.meaning()),
             };
             Refused { refusal, line: None, found }.into()

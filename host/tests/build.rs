@@ -262,11 +262,11 @@ fn a_bad_line_is_named() {
 #[test]
 fn a_refused_store_is_named() {
     let given = Given::new("refused");
-    let page = ["line 3: 0x08000000: page 8, expected 5, 6 or 7 (refusal 9); ", "0x05000000 to 0x07ffffff"];
+    let page = ["line 3: 0x08000000: page 0x08, expected 0x05 to 0x07 (refusal 9); ", "0x05000000 to 0x07ffffff"];
     given.refused("16 0x05000000 1\n\n16 0x0800_0000 1\n64", &page);
     given.refused("\n\n8 134217728 1", &page);
     for address in ["0x0", "0x04000000", "0x15000000", "0x85000000", "0xffffffff"] {
-        given.refused(format!("8 {address} 1"), &["line 1: 0x", ", expected 5, 6 or 7 (refusal 9); "]);
+        given.refused(format!("8 {address} 1"), &["line 1: 0x", ", expected 0x05 to 0x07 (refusal 9); "]);
     }
     let odd = "line 2: 0x06018001: a halfword store at an odd address of page 6 (refusal 11); give the even address";
     given.refused("8 0x06018001 1\n16 0x06018001 1", &[odd]);

@@ -14,7 +14,7 @@ use Rattle.gpu_pages.specs.Places.{pageOf, videoOffset}
 -- ---- pages
 
 -- An address of 32 bits has nothing above its page.
-pub topmost : (address : ℕ) → Fits w32 address → bits 31 24 address ≡ address / 0x1000000
+topmost : (address : ℕ) → Fits w32 address → bits 31 24 address ≡ address / 0x1000000
 topmost address fits = omega arith
 
 module _ (address : ℕ) (fits : Fits w32 address) where

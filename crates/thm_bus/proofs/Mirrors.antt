@@ -26,7 +26,7 @@ byteOf-is : (a b : ℕ) (page : Page) → pageOf a ≡ page → pageOf b ≡ pag
 unfolding byteOf
 byteOf-is a b page in-a in-b same = rw (in-a, in-b, same)
 
-pub small-same : (address k : ℕ) (page : Page) → isVideo page ≡ false → offsetIn page (address + 0x400 * k) ≡ offsetIn page address
+small-same : (address k : ℕ) (page : Page) → isVideo page ≡ false → offsetIn page (address + 0x400 * k) ≡ offsetIn page address
 unfolding offsetIn
 small-same address k Palram n = omega arith
 small-same address k Vram n = absurd (true≢false n)
@@ -78,9 +78,10 @@ module _ (a b : ℕ) (same : byteOf a ≡ byteOf b) where
   unfolding byteOf
   offsets-same = ap (λ (p : Place). p .offset) same
 
-  odd-same : (value : ℕ) → isOddHalfword (Store16 a value) ≡ isOddHalfword (Store16 b value)
-  unfolding isOddHalfword
-  odd-same value =
+  pub odd-mirror : (s : Store) → isOddHalfword (storeAt a s) ≡ isOddHalfword (storeAt b s)
+  unfolding storeAt isOddHalfword
+  odd-mirror (Store8 registers old value) = refl
+  odd-mirror (Store16 old value) =
       odd-is (pageOf a) a
       ∙ ap₂ (λ (p : Page) (n : ℕ). isVideo p && bit 0 n) pages-same offsets-same
       ∙ sym (odd-is (pageOf b) b)
@@ -130,9 +131,3 @@ module _ (a b : ℕ) (same : placeOf a ≡ placeOf b) where
   unfolding store storeAt storeNumber storeLengths stored byteOf
   store-place (Store8 registers old value) m odd = rw (taken-same (Store8 registers old value), odd, same, page-same)
   store-place (Store16 old value) m odd = rw (taken-same (Store16 old value), odd, same, page-same)
-
-module _ (a b : ℕ) (same : byteOf a ≡ byteOf b) where
-  pub odd-mirror : (s : Store) → isOddHalfword (storeAt a s) ≡ isOddHalfword (storeAt b s)
-  unfolding storeAt isOddHalfword
-  odd-mirror (Store8 registers old value) = refl
-  odd-mirror (Store16 old value) = odd-same a b same value
