@@ -1,4 +1,7 @@
 // The routines that a host program in C or Rust calls: include/ashlarkin.h says the same in C. Lent buffers don't overlap.
+
+#![tactic(auto)]
+
 ghost use Rattle.gpu_judge.specs.Judge.{call_of};
 ghost use Rattle.gpu.specs.Draw.{Draws};
 ghost use Rattle.obj_entries.specs.Reset.{Resets};

@@ -1,5 +1,8 @@
 // Backgrounds, one colour line each (gpu/render.rs, render/text.rs, render/bitmap.rs, and what `render_scanline` of gpu/mod.rs
 // has of each mode).
+
+#![tactic(auto)]
+
 ghost use Rattle.std.specs.Prelude.{◌≡◌, ◌<◌};
 ghost use Rattle.rgb15.specs.Colour.{rgb};
 ghost use Rattle.rows.specs.Tab.{tab};
@@ -20,7 +23,7 @@ use rgb15::Rgb15;
 use steps::read_bg_affine;
 
 // What a background is in a mode.
-#[derive(Drop)]
+#[derive(Clone, Copy)]
 pub enum BgKind {
     Absent,
     Regular,

@@ -8,7 +8,7 @@ use regs::iodev::{read_pa, read_pc};
 use signed::{lift_half, lift_i32};
 
 // Where column 0 lies, 256 to a pixel, and what a column adds, as halfwords.
-#[derive(Drop)]
+#[derive(Clone, Copy)]
 pub struct BgAffine {
     pub x: i32,
     pub y: i32,
@@ -17,7 +17,7 @@ pub struct BgAffine {
 }
 
 // The same numbers, each larger by a bias, so that none is below 0.
-#[derive(Drop)]
+#[derive(Clone, Copy)]
 pub struct Lifted {
     pub x: u32,
     pub y: u32,

@@ -1,4 +1,7 @@
 // Points of affine and bitmap backgrounds (gpu/render.rs).
+
+#![tactic(auto)]
+
 ghost use Rattle.std.specs.Prelude.{◌≡◌, ◌&&◌, ◌/◌, ◌<◌, ◌^◌, pos, ◌+ℤ◌, ◌*ℤ◌};
 ghost use Rattle.std.proofs.Math.IntN.{sub_ℕ};
 ghost use Rattle.signed.specs.Signed.{down256, wrapped, within};
@@ -17,7 +20,7 @@ const BG_POINT_BIAS: u32 = 0x1e_0000;
 const REFERENCE_RISE: u32 = 256 * BG_POINT_BIAS - REFERENCE_BIAS;
 
 // The width and height of a picture, and whether it repeats.
-#[derive(Drop)]
+#[derive(Clone, Copy)]
 pub struct ViewPort {
     pub w: u32,
     pub h: u32,

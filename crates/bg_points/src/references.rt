@@ -5,7 +5,7 @@ ghost use Rattle.bg_points.specs.References.{in_ranges};
 use signed::in_range;
 
 // The four reference numbers, background 2's and background 3's.
-#[derive(Drop)]
+#[derive(Clone, Copy)]
 pub struct References {
     pub x2: i32,
     pub y2: i32,

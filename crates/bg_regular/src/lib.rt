@@ -1,4 +1,7 @@
 // Regular backgrounds, of modes 0 and 1 (gpu/render/text.rs).
+
+#![tactic(auto)]
+
 ghost use Rattle.std.specs.Prelude.{◌≡◌, ◌*◌, ◌/◌, ◌%◌, ◌<◌};
 ghost use Rattle.rgb15.specs.Colour.{rgb};
 ghost use Rattle.rows.specs.Tab.{tab};
@@ -23,7 +26,7 @@ const LINE_TILES: usize = DISPLAY_WIDTH / TILE_SIDE + 1;
 const LINE_COLUMNS: usize = TILE_SIDE * LINE_TILES;
 
 // An entry of a regular background's map.
-#[derive(Drop)]
+#[derive(Clone, Copy)]
 pub struct TileMapEntry(pub u16);
 
 impl TileMapEntry {

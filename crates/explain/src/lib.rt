@@ -1,4 +1,7 @@
 // Why a column has its colour (beside no file of the Rust; `finalize_pixel` of gpu/sfx.rs has the cases).
+
+#![tactic(auto)]
+
 ghost use Rattle.std.specs.Prelude.{◌≡◌, ◌<◌, get_or};
 ghost use Rattle.rgb15.specs.Colour.{rgb};
 ghost use Rattle.rows.specs.Cells.{cell_at};
@@ -39,7 +42,7 @@ const BLANK: u32 = 0xf8f8f8;
 
 // The region, the two layers, the effect and the weights of a column, by their numbers, and the pixel that follows.
 #[repr(C)]
-#[derive(Drop)]
+#[derive(Clone, Copy)]
 pub struct Reason {
     pub number: u32,
     pub blank: u32,

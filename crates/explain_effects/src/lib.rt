@@ -1,4 +1,7 @@
 // The effect on one column's layers, by name, and what follows from it (gpu/sfx.rs, `finalize_pixel`).
+
+#![tactic(auto)]
+
 ghost use Rattle.std.specs.Prelude.{◌≡◌, ◌≤◌, length};
 ghost use Rattle.rgb15.specs.Colour.{to_rgb24};
 ghost use Rattle.memory.specs.Sizes.{registers_size};
@@ -16,7 +19,7 @@ use rgb15::Rgb15;
 use sfx_effects::line_weights;
 
 // What becomes of the top layer's colour.
-#[derive(Drop)]
+#[derive(Clone, Copy)]
 pub enum Effect {
     None,
     SpriteBlend,
@@ -26,7 +29,7 @@ pub enum Effect {
 }
 
 // What an effect multiplies two colours by, in sixteenths.
-#[derive(Drop)]
+#[derive(Clone, Copy)]
 pub struct EffectWeights {
     pub first: u16,
     pub second: u16,

@@ -1,4 +1,7 @@
 // The two layers of one column, by name (gpu/sfx.rs, `finalize_pixel`; gpu/layer.rs).
+
+#![tactic(auto)]
+
 ghost use Rattle.std.specs.Prelude.{◌≡◌, cond, length, get_or};
 ghost use Rattle.rgb15.specs.Colour.{rgb};
 ghost use Rattle.memory.specs.Sizes.{registers_size};
@@ -14,7 +17,7 @@ use rgb15::Rgb15;
 use sfx_sorting::{NO_BACKGROUND, sort_backgrounds};
 
 // The Rust's RenderLayer.
-#[derive(Drop)]
+#[derive(Clone, Copy)]
 pub struct Layer {
     pub kind: RenderLayerKind,
     pub priority: u16,
@@ -22,7 +25,7 @@ pub struct Layer {
 }
 
 // What a column's pixel is made of.
-#[derive(Drop)]
+#[derive(Clone, Copy)]
 pub struct Layers {
     pub top: Layer,
     pub bottom: Layer,

@@ -1,4 +1,7 @@
 // The pass over sprites at one column (gpu/render/obj.rs): what a draw makes of that column's entry, and nothing is written.
+
+#![tactic(auto)]
+
 ghost use Rattle.std.specs.Prelude.{◌≡◌, cond};
 ghost use Rattle.obj_sprites.specs.Oam.{matrix};
 ghost use Rattle.obj_sprites.specs.Color.{normal_color, affine_obj_color};
@@ -18,7 +21,7 @@ use regs::{ObjMapping, Reading};
 use rgb15::Rgb15;
 
 // A column of a line, and how its sprites are read: by which reading, and by display control.
-#[derive(Drop)]
+#[derive(Clone, Copy)]
 struct View {
     pub reading: Reading,
     pub mapping: ObjMapping,

@@ -1,4 +1,7 @@
 // The region of one column (gpu/sfx.rs, the walks of `finalize_scanline`; gpu/window.rs).
+
+#![tactic(auto)]
+
 ghost use Rattle.std.specs.Prelude.{◌≡◌, ◌&&◌, length};
 ghost use Rattle.memory.specs.Sizes.{registers_size};
 ghost use Rattle.regs_window.specs.Windows.{window_left, window_right, in_columns, in_rows};

@@ -1,4 +1,7 @@
 // The draw on numbers and bytes (gpu/mod.rs).
+
+#![tactic(auto)]
+
 ghost use Rattle.std.specs.Prelude.{◌≡◌, length};
 ghost use Rattle.memory.specs.Sizes.{output_size};
 ghost use Rattle.rgb15.specs.Colour.{rgb};

@@ -1,4 +1,7 @@
 // Reads and stores of pages 5, 6 and 7, as the bus does them (gpu/mod.rs, `impl BusIO for Gpu`).
+
+#![tactic(auto)]
+
 ghost use Rattle.std.specs.Prelude.{◌≡◌, ◌+◌, ◌<◌, [], ◌∷◌, length};
 ghost use Rattle.rows.specs.Bytes.{put_from};
 ghost use Rattle.memory.specs.Sizes.{registers_size};
@@ -16,7 +19,7 @@ use regs::iodev::read_dispcnt;
 
 // What a byte read gives: 0 and the byte, or the number of the refusal and 0.
 #[repr(C)]
-#[derive(Drop)]
+#[derive(Clone, Copy)]
 pub struct Byte {
     pub number: u32,
     pub value: u32,

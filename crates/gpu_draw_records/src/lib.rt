@@ -1,4 +1,7 @@
 // The draw on a row of records by value: the byte form draws on their bytes (gpu/mod.rs, `render_scanline`).
+
+#![tactic(auto)]
+
 ghost use Rattle.std.specs.Prelude.{◌≡◌, length};
 ghost use Rattle.memory.specs.Sizes.{registers_size};
 ghost use Rattle.gpu_judge.specs.Judge.{call_of};
@@ -13,7 +16,7 @@ use memory::DISPLAY_WIDTH;
 use regs::iodev::read_dispcnt;
 
 // What a draw makes of a row: its number, and the row to be written, if it is to be.
-#[derive(Drop)]
+#[derive(Clone, Copy)]
 pub struct Drawn {
     pub number: u32,
     pub writes: bool,

@@ -1,4 +1,7 @@
 // A draw's input judged (beside no file of the Rust, whose memory has its lengths).
+
+#![tactic(auto)]
+
 ghost use Rattle.std.specs.Prelude.{◌≡◌, length};
 ghost use Rattle.memory.specs.Sizes.{registers_size};
 ghost use Rattle.obj_entries.specs.Entry.{entries_size};
@@ -17,7 +20,7 @@ use regs_blend::read_bldy;
 const LINES: u32 = DISPLAY_HEIGHT as u32;
 
 // What a draw's input is found to be.
-#[derive(Drop)]
+#[derive(Clone, Copy)]
 pub enum Verdict {
     BadReading,
     BadLength,

@@ -1,9 +1,12 @@
 // Where an address of pages 5, 6 and 7 falls (gpu/mod.rs, `impl BusIO for Gpu`).
+
+#![tactic(auto)]
+
 ghost use Rattle.std.specs.Prelude.{◌≡◌, ◌<◌};
 ghost use Rattle.gpu_pages.specs.Places.{page_of, small_offset, video_offset, even};
 
 // The memory that an address reaches, by its page.
-#[derive(Drop)]
+#[derive(Clone, Copy)]
 pub enum Page {
     Palram,
     Vram,

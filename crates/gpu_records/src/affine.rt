@@ -7,7 +7,7 @@ use gpu_step::{Stepped, Steps, step_references};
 
 // A background's numbers for rotation and scaling: the matrix, the reference point as it was written, and as it is now.
 #[repr(C)]
-#[derive(Drop)]
+#[derive(Clone, Copy)]
 pub struct BgAffine {
     pub pa: i16,
     pub pb: i16,
@@ -20,7 +20,7 @@ pub struct BgAffine {
 }
 
 // What the step gives: its number, and both records afterwards.
-#[derive(Drop)]
+#[derive(Clone, Copy)]
 pub struct PairStep {
     pub number: u32,
     pub bg2: BgAffine,

@@ -8,12 +8,12 @@ use obj_entries::{ENTRIES_SIZE, Entry, entry_at, put_entry};
 
 // A colour as rgb15 has it, with a layout that a host can rely on.
 #[repr(C)]
-#[derive(Drop)]
+#[derive(Clone, Copy)]
 pub struct Rgb15(pub u16);
 
 // What a column's entry holds.
 #[repr(C)]
-#[derive(Drop)]
+#[derive(Clone, Copy)]
 pub struct ObjBufferEntry {
     pub window: bool,
     pub alpha: bool,

@@ -1,4 +1,7 @@
 // The step of the reference numbers at a line's end (gpu/mod.rs, `handle_hblank_end`).
+
+#![tactic(auto)]
+
 ghost use Rattle.std.specs.Prelude.{◌≡◌, true, ◌+◌, ◌*◌, ◌≤◌, ◌+ℤ◌, length};
 ghost use Rattle.rows.specs.Cells.{cell_at, put_cell};
 ghost use Rattle.rows.specs.Words.{word_cells};
@@ -20,7 +23,7 @@ const SIGN: u32 = 0x8000_0000;
 const LOWEST: i32 = -0x7fff_ffff - 1;
 
 // pb and pd of both backgrounds, which a line adds to x and y.
-#[derive(Drop)]
+#[derive(Clone, Copy)]
 pub struct Steps {
     pub pb2: i16,
     pub pd2: i16,
@@ -29,7 +32,7 @@ pub struct Steps {
 }
 
 // What the step gives: nothing, or the four reference numbers.
-#[derive(Drop)]
+#[derive(Clone, Copy)]
 pub enum Stepped {
     Refused,
     To(References),

@@ -1,4 +1,7 @@
 // Reads of the lent memory (gpu/mod.rs, its reads).
+
+#![tactic(auto)]
+
 ghost use Rattle.std.specs.Prelude.{◌≡◌, ◌+◌, ◌*◌, ◌≤◌, ◌<◌, length};
 ghost use Rattle.memory.specs.Sizes.{video_ram_size, palette_ram_size};
 ghost use Rattle.memory.specs.Memory.{byte, half};
@@ -56,7 +59,7 @@ pub fn read_16(bytes: &[u8], at: usize) -> u16
 }
 
 // How many colours a pixel can have: 4 bits of a byte, or 8.
-#[derive(Drop)]
+#[derive(Clone, Copy)]
 pub enum PixelFormat {
     BPP4,
     BPP8,

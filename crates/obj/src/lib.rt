@@ -1,4 +1,7 @@
 // The pass over sprites (gpu/render/obj.rs): which of their pixels a row of entries shows.
+
+#![tactic(auto)]
+
 ghost use Rattle.std.specs.Prelude.{◌≡◌, cond, ◌-◌, ◌<◌, min, length};
 ghost use Rattle.obj_entries.specs.Entry.{entries_size};
 ghost use Rattle.obj_sprites.specs.Oam.{matrix};
@@ -42,7 +45,7 @@ fn end_column(right: usize) -> usize
 }
 
 // Columns from start up to end.
-#[derive(Drop)]
+#[derive(Clone, Copy)]
 struct Span {
     pub start: usize,
     pub end: usize,

@@ -1,5 +1,8 @@
 // Object entries (gpu/mod.rs, `ObjBufferEntry`): four bytes of a lent row each, which `entry_at`, `put_entry` and
 // `put_unless` alone read and write.
+
+#![tactic(auto)]
+
 ghost use Rattle.std.specs.Prelude.{◌≡◌, cond, ◌≤◌, ◌<◌, length};
 ghost use Rattle.rows.specs.Cells.{cell_at, put_cell};
 ghost use Rattle.obj_entries.specs.Entry.{entries_size, entry_cells, reset_entry, reset_row, well_shaped, shaped_row};
@@ -17,7 +20,7 @@ const ENTRY_SIZE: usize = 4;
 pub const ENTRIES_SIZE: usize = ENTRY_SIZE * DISPLAY_WIDTH;
 
 // What a column's entry holds; marks has bit 0 for semi-transparent and bit 1 for window.
-#[derive(Drop)]
+#[derive(Clone, Copy)]
 pub struct Entry {
     pub color: Rgb15,
     pub priority: u8,

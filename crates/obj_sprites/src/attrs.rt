@@ -26,7 +26,7 @@ const Y_BIAS: usize = 96;
 // The columns of the widest box, and the lines of the highest.
 pub const BOX_MAX: usize = 128;
 
-#[derive(Drop)]
+#[derive(Clone, Copy)]
 pub enum ObjMode {
     Normal,
     Sfx,
@@ -60,7 +60,7 @@ impl ObjMode {
     }
 }
 
-#[derive(Drop)]
+#[derive(Clone, Copy)]
 pub enum ObjType {
     Normal,
     Affine,
@@ -108,7 +108,7 @@ impl ObjType {
 }
 
 // A width and a height.
-#[derive(Drop)]
+#[derive(Clone, Copy)]
 struct Size(u8, u8);
 
 // Width and height, laid out as in GBATEK: a row for each size, 0 to 3; square, wide, tall, and the prohibited shape, which
@@ -149,7 +149,7 @@ pub fn is_inside(at: usize, from: usize, size: usize) -> bool
 }
 
 // A sprite, field by field in the order of its bits; x and y are as its halfwords hold them.
-#[derive(Drop)]
+#[derive(Clone, Copy)]
 pub struct ObjAttrs {
     pub y: usize,
     pub objtype: ObjType,

@@ -1,4 +1,7 @@
 // Sprites, from their attributes to the colour of a pixel (gpu/render/obj.rs). The attributes have a file of their own.
+
+#![tactic(auto)]
+
 ghost use Rattle.std.specs.Prelude.{◌≡◌, ◌%◌, ◌<◌, length};
 ghost use Rattle.memory.specs.Sizes.{oam_size};
 ghost use Rattle.memory.specs.Code.{Lent};

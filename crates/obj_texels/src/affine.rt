@@ -35,7 +35,7 @@ const OBJ_POINT_BIAS: usize = 0x1_0000;
 const START_BIAS: usize = 256 * OBJ_POINT_BIAS;
 
 // A matrix.
-#[derive(Drop)]
+#[derive(Clone, Copy)]
 struct AffineMatrix {
     pub pa: usize,
     pub pb: usize,
@@ -57,7 +57,7 @@ fn get_affine_matrix(oam: &[u8], affine_index: usize) -> AffineMatrix
 }
 
 // How the columns of a box turn on a line: where column 0 lies in the sprite, 256 to a pixel, and what a column adds.
-#[derive(Drop)]
+#[derive(Clone, Copy)]
 pub struct Turn {
     pub x: usize,
     pub y: usize,

@@ -1,5 +1,8 @@
 // What the pass over sprites shows of one on a line (gpu/render/obj.rs): the row of colours of a normal sprite, and that of an
 // affine one's box.
+
+#![tactic(auto)]
+
 mod affine;
 mod normal;
 

@@ -1,5 +1,8 @@
 // Registers decoded to values (gpu/regs.rs): display and background control. The reading and the lent bytes have files of their
 // own, and windows and blending crates.
+
+#![tactic(auto)]
+
 ghost use Rattle.std.specs.Prelude.{◌≡◌};
 ghost use Rattle.regs.specs.Display.{DisplayControlOf, is_using_windows, obj_mapping};
 ghost use Rattle.regs.specs.Background.{BgControlOf, RegularSize, char_block, screen_block, tile_format};
@@ -12,13 +15,13 @@ pub use reading::Reading;
 
 pub const SCREEN_BLOCK_SIZE: usize = 0x800;
 
-#[derive(Drop)]
+#[derive(Clone, Copy)]
 pub enum ObjMapping {
     TwoDimension,
     OneDimension,
 }
 
-#[derive(Drop)]
+#[derive(Clone, Copy)]
 pub struct DisplayControl {
     pub mode: u16,
     pub display_frame_select: u16,
@@ -75,7 +78,7 @@ impl DisplayControl {
     }
 }
 
-#[derive(Drop)]
+#[derive(Clone, Copy)]
 pub struct BgControl {
     pub priority: u16,
     pub character_base_block: u16,
@@ -87,7 +90,7 @@ pub struct BgControl {
 }
 
 // The width and height of a regular background.
-#[derive(Drop)]
+#[derive(Clone, Copy)]
 pub struct BgSize {
     pub width: usize,
     pub height: usize,

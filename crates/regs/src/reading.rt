@@ -2,7 +2,7 @@
 ghost use Rattle.std.specs.Prelude.{◌≡◌, ◌<◌, ◌≤◌};
 ghost use Rattle.regs.specs.Reading.{reading_of, counted};
 
-#[derive(Drop)]
+#[derive(Clone, Copy)]
 pub enum Reading {
     R,
     H,

@@ -2,7 +2,7 @@
 ghost use Rattle.std.specs.Prelude.{◌≡◌, ◌<◌};
 ghost use Rattle.regs_blend.specs.Layers.{background_layer, layer_bit};
 
-#[derive(Drop)]
+#[derive(Clone, Copy)]
 pub enum RenderLayerKind {
     Backdrop,
     Background3,

@@ -1,4 +1,7 @@
 // Blending: its registers decoded and read (gpu/regs.rs, iodev.rs), and the kinds of layers.
+
+#![tactic(auto)]
+
 ghost use Rattle.std.specs.Prelude.{◌≡◌, ◌<◌, length};
 ghost use Rattle.bits.specs.Bits.{bits};
 ghost use Rattle.memory.specs.Sizes.{registers_size};
@@ -13,7 +16,7 @@ use memory::read_16;
 use regs::iodev::{BLDALPHA, BLDCNT, BLDY};
 
 // Layers, as six bits: backgrounds 0 to 3, objects, backdrop.
-#[derive(Drop)]
+#[derive(Clone, Copy)]
 pub struct BlendFlags(pub u16);
 
 impl BlendFlags {
@@ -31,7 +34,7 @@ impl BlendFlags {
     }
 }
 
-#[derive(Drop)]
+#[derive(Clone, Copy)]
 pub enum BlendMode {
     BldNone,
     BldAlpha,
@@ -53,7 +56,7 @@ impl BlendMode {
     }
 }
 
-#[derive(Drop)]
+#[derive(Clone, Copy)]
 pub struct BlendControl {
     pub target1: BlendFlags,
     pub target2: BlendFlags,
@@ -72,7 +75,7 @@ impl BlendControl {
     }
 }
 
-#[derive(Drop)]
+#[derive(Clone, Copy)]
 pub struct BlendAlpha {
     pub eva: u16,
     pub evb: u16,

@@ -1,4 +1,7 @@
 // Windows: their registers decoded and read (gpu/window.rs, regs.rs, iodev.rs).
+
+#![tactic(auto)]
+
 ghost use Rattle.std.specs.Prelude.{◌≡◌, ◌≤◌, ◌<◌, length};
 ghost use Rattle.bits.specs.Bits.{bits};
 ghost use Rattle.memory.specs.Sizes.{display_width, display_height, registers_size};
@@ -10,7 +13,7 @@ use memory::{DISPLAY_HEIGHT, DISPLAY_WIDTH, read_16};
 use regs::iodev::{WIN0H, WIN0V, WIN1H, WIN1V, WININ, WINOUT};
 
 // What a region permits, as six bits: backgrounds 0 to 3, objects, effects.
-#[derive(Drop)]
+#[derive(Clone, Copy)]
 pub struct WindowFlags(pub u16);
 
 impl WindowFlags {
@@ -47,7 +50,7 @@ impl WindowFlags {
     }
 }
 
-#[derive(Drop)]
+#[derive(Clone, Copy)]
 pub struct Window {
     pub left: u8,
     pub right: u8,

@@ -1,9 +1,12 @@
 // The 15-bit colour (gpu/rgb15.rs, and `impl Rgb15` of gpu/sfx.rs).
+
+#![tactic(auto)]
+
 ghost use Rattle.std.specs.Prelude.{◌≡◌, ◌≤◌};
 ghost use Rattle.rgb15.specs.Colour.{red, green, blue, to_rgb24, from_rgb, is_transparent, blend_channel, blend_with};
 
 // A colour as memory holds it: red in bits 4-0, green in 9-5, blue in 14-10.
-#[derive(Drop)]
+#[derive(Clone, Copy)]
 pub struct Rgb15(pub u16);
 
 // The channels, 0 to 31, which the Rust's `bitfield!` makes.

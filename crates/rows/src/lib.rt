@@ -1,4 +1,7 @@
 // Rows of four-byte words, and a choice for loops over columns. The laws of rows are in proofs/.
+
+#![tactic(auto)]
+
 ghost use Rattle.std.specs.Prelude.{◌≡◌, cond, ◌+◌, ◌*◌, ◌≤◌, length};
 ghost use Rattle.rows.specs.Cells.{cell_at, put_cell};
 ghost use Rattle.rows.specs.Words.{word_cells};

@@ -3,6 +3,9 @@
 // 0 and 1, or a reason's fields, or what a store returned and left, or what was read; the file stdout has what the documents
 // expect. The backdrop is green, 0x00f800. The bytes of the output and of what is stored to start as 0xaa, so a refused draw
 // shows 0xaaaaaaaa.
+
+#![tactic(auto)]
+
 use ashlarkin::{
     ashlarkin_draw, ashlarkin_explain, ashlarkin_read8, ashlarkin_reset, ashlarkin_step,
     ashlarkin_store8, ashlarkin_store16,
@@ -29,7 +32,7 @@ const H: u32 = 1;
 const LIMIT: i32 = 0x1000_0000;
 
 // What a draw returned, and its pixels 0 and 1.
-#[derive(Drop)]
+#[derive(Clone, Copy)]
 struct Drawn {
     number: u32,
     first: u32,
@@ -312,7 +315,7 @@ fn reasons() {
 }
 
 // What a store returned, and the bytes that were read at two addresses afterwards.
-#[derive(Drop)]
+#[derive(Clone, Copy)]
 struct Stored {
     number: u32,
     at: u32,

@@ -5,7 +5,7 @@ ghost use Rattle.run_replay.specs.Same.{SameOnlyIf};
 use crate::list::{REASON_SIZE, ROW_ROOM};
 
 // What came of a record: the same, or what differed, or a list that ends before it does.
-#[derive(Drop)]
+#[derive(Clone, Copy)]
 pub(crate) enum Found {
     Same,
     Number(u32),

@@ -19,6 +19,9 @@
 // it. A step is followed by 32 bytes that hold its references before, and 32 after. A reason's ten fields behind its number
 // come last, a word each, in place of what a draw leaves. Reads and stores are lent the first of the video memories, and a
 // palette and an OAM that start as zeros and that no draw sees; what they store stays there for the records behind.
+
+#![tactic(auto)]
+
 mod bus;
 mod calls;
 mod compare;

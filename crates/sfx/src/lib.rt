@@ -1,4 +1,7 @@
 // Composing a line (gpu/sfx.rs). The loops over columns work on halfwords, of which a vector holds eight.
+
+#![tactic(auto)]
+
 ghost use Rattle.std.specs.Prelude.{◌≡◌, ◌≤◌, length, get_or};
 ghost use Rattle.bits.specs.Bits.{bits};
 ghost use Rattle.rgb15.specs.Colour.{to_rgb24};

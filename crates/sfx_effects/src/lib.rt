@@ -1,4 +1,7 @@
 // The effect on a column's layers (gpu/sfx.rs): the weights of a line's blends, and one blend for every effect.
+
+#![tactic(auto)]
+
 ghost use Rattle.std.specs.Prelude.{◌≡◌, ◌≤◌, length};
 ghost use Rattle.memory.specs.Sizes.{registers_size};
 ghost use Rattle.regs.specs.Registers.{bldy};
@@ -13,7 +16,7 @@ use rows::choose;
 use sfx_layers::{FIRST_TARGET, LayerPair, MODE_ALPHA, MODE_WHITE, SECOND_TARGET, SEMI_OBJECT};
 
 // The weights of a line's blends, as its reading counts them.
-#[derive(Drop)]
+#[derive(Clone, Copy)]
 pub struct Weights {
     pub eva: u16,
     pub evb: u16,

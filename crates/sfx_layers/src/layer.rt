@@ -33,7 +33,7 @@ const MODE_BLACK: u16 = 3;
 
 // The top and the bottom layer of a column, the colour and the tag of each. No layer is passed on or chosen whole: the
 // compiler would take its two halfwords for one word, of which a vector holds half as many.
-#[derive(Drop)]
+#[derive(Clone, Copy)]
 pub struct LayerPair {
     pub top: u16,
     pub top_tag: u16,
@@ -43,7 +43,7 @@ pub struct LayerPair {
 
 // What a line's layers have in common at every column: the tag of each place's background, that of objects, the backdrop,
 // and the number of the control's effect.
-#[derive(Drop)]
+#[derive(Clone, Copy)]
 pub struct LineLayers {
     pub place0: u16,
     pub place1: u16,

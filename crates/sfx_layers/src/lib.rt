@@ -1,4 +1,7 @@
 // The layers of a line's columns: the top and the bottom one (gpu/layer.rs), and what regions permit (gpu/sfx.rs).
+
+#![tactic(auto)]
+
 mod layer;
 mod region;
 

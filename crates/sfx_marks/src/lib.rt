@@ -1,4 +1,7 @@
 // Columns of a line as marks, 64 in a word, and rows that are painted by them (gpu/sfx.rs, `occupied` of `finalize_scanline`).
+
+#![tactic(auto)]
+
 ghost use Rattle.std.specs.Prelude.{◌≡◌, not, ◌&&◌, ◌||◌, ◌+◌, ◌-◌, ◌^◌, ◌≤◌, min, length, get_or};
 ghost use Rattle.std.specs.Int.Count.{ones};
 ghost use Rattle.rows.specs.Tab.{tab};
@@ -8,7 +11,7 @@ use memory::DISPLAY_WIDTH;
 use rows::choose;
 
 // The columns from left on and before right.
-#[derive(Drop)]
+#[derive(Clone, Copy)]
 pub struct Columns {
     pub left: usize,
     pub right: usize,

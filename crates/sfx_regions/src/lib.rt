@@ -1,4 +1,7 @@
 // Regions of a line (gpu/sfx.rs, the walks of `finalize_scanline`; gpu/window.rs).
+
+#![tactic(auto)]
+
 ghost use Rattle.std.specs.Prelude.{◌≡◌, cond, ◌&&◌, ◌<◌, length};
 ghost use Rattle.rows.specs.Cells.{cell_at};
 ghost use Rattle.rows.specs.Tab.{tab};
@@ -18,7 +21,7 @@ use regs_window::{
 use sfx_marks::{Columns, count_marks, free_marks, joined, marks_of, paint};
 
 // The Rust's kinds of window: a column's region.
-#[derive(Drop)]
+#[derive(Clone, Copy)]
 pub enum WindowType {
     Win0,
     Win1,
@@ -28,7 +31,7 @@ pub enum WindowType {
 }
 
 // A word for each region; what the words say is the caller's.
-#[derive(Drop)]
+#[derive(Clone, Copy)]
 pub struct RegionWords {
     pub win0: u16,
     pub win1: u16,

@@ -1,4 +1,7 @@
 // The order of backgrounds (gpu/sfx.rs, the sort of `finalize_scanline`).
+
+#![tactic(auto)]
+
 ghost use Rattle.std.specs.Prelude.{◌≡◌, ◌<◌, min, max, length};
 ghost use Rattle.memory.specs.Sizes.{registers_size};
 ghost use Rattle.regs.specs.Registers.{dispcnt, bgcnt};

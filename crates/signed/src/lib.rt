@@ -1,4 +1,7 @@
 // Signed numbers as unsigned ones, larger by a fixed bias (beside no file of the Rust, which computes in i32).
+
+#![tactic(auto)]
+
 ghost use Rattle.std.specs.Prelude.{◌≡◌, true, ◌<◌, ◌^◌};
 ghost use Rattle.std.proofs.Math.IntN.{sub_ℕ};
 ghost use Rattle.signed.specs.Signed.{signed16, signed32, word32, in_range};

@@ -1,4 +1,7 @@
 // A tile's pixels and rows, for backgrounds and sprites alike (gpu/mod.rs, its reads).
+
+#![tactic(auto)]
+
 ghost use Rattle.std.specs.Prelude.{◌≡◌, ◌+◌, ◌*◌, ◌<◌, eqb, length, get_or};
 ghost use Rattle.rgb15.specs.Colour.{rgb};
 ghost use Rattle.rows.specs.Below.{all_below};

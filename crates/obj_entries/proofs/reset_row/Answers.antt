@@ -1,0 +1,16 @@
+-- obj_entries::reset_row meets its contract: a turn puts the reset entry in its cell.
+-- Assumes nothing.
+use Prim.Native.Nat.{◌-◌}
+use borrow.Author.Rules.{rules}
+use Rattle.rows.proofs.Passed.{started, filled}
+use Rattle.obj_entries.specs.Entry.{entry_cells}
+use Rattle.obj_entries.proofs.reset_row.Goals as goal
+
+pub loop-k-init : goal.loop-k-init
+loop-k-init c = search (rules, started entry_cells)
+
+pub loop-k-preserved : goal.loop-k-preserved
+loop-k-preserved c = search rules
+
+pub returns : goal.returns
+returns c = search (rules, filled entry_cells)
