@@ -2,7 +2,7 @@
 -- Assumes nothing.
 use Prim.Native.Nat.{◌-◌}
 use borrow.Author.Rules.{rules}
-use Rattle.rows.proofs.Passed.{started, filled}
+use Rattle.rows.proofs.Passed.{started, turned, filled}
 use Rattle.obj_entries.specs.Entry.{entry_cells}
 use Rattle.obj_entries.proofs.reset_row.Goals as goal
 
@@ -10,7 +10,7 @@ pub loop-k-init : goal.loop-k-init
 loop-k-init c = search (rules, started entry_cells)
 
 pub loop-k-preserved : goal.loop-k-preserved
-loop-k-preserved c = search rules
+loop-k-preserved c = search (rules, turned entry_cells)
 
 pub returns : goal.returns
 returns c = search (rules, filled entry_cells)

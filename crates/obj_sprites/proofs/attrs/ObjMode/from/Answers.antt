@@ -1,0 +1,23 @@
+-- obj_sprites::attrs::ObjMode::from meets its contract: each number's arm is its place in the list.
+-- Assumes nothing.
+use mathlib.Core.Path.{◌≡◌}
+use native.Mathlib.Omega.{arith}
+use borrow.Author.Rules.{rules}
+use Rattle.obj_sprites.specs.Attrs.{obj_mode}
+use Rattle.obj_sprites.proofs.attrs.ObjMode.from.Goals as goal
+
+pub returns-in-0 : goal.returns-in-0
+unfolding obj_mode
+returns-in-0 c = search rules
+
+pub returns-in-1 : goal.returns-in-1
+unfolding obj_mode
+returns-in-1 c = search rules
+
+pub returns-in-2 : goal.returns-in-2
+unfolding obj_mode
+returns-in-2 c = search rules
+
+pub returns-in_default : goal.returns-in_default
+unfolding obj_mode
+returns-in_default c = let e : c.args.value ≡ 3 = omega arith in rw e

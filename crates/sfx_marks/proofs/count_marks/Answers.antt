@@ -1,0 +1,12 @@
+-- sfx_marks::count_marks meets its contract: the ones of the four words are the marks of 240 columns, for the fourth has 48.
+-- Assumes nothing.
+use native.Mathlib.Omega.{arith}
+use borrow.Author.Rules.{rules}
+use Rattle.sfx_marks.proofs.Marks.{count_marks_ones}
+use Rattle.sfx_marks.proofs.count_marks.Goals as goal
+
+pub returns : goal.returns
+returns c =
+    let third = c in
+    let start = third in
+    omega (arith, count_marks_ones start.args.marks (λ i. search rules) start.requires)

@@ -1,0 +1,15 @@
+-- sfx_marks::marks_of meets its contract: each word has the marks of its 64 columns.
+-- Assumes nothing.
+use Rattle.sfx_marks.proofs.Marks.{marks_of_columns}
+use Rattle.sfx_marks.proofs.marks_of.Goals as goal
+
+pub returns : goal.returns
+returns c =
+    let third = c in
+    let second = third in
+    let first = second in
+    marks_of_columns _ first.requires
+    first.marks_in.ensures
+    second.marks_in-2.ensures
+    third.marks_in-3.ensures
+    c.marks_in-4.ensures
