@@ -1,9 +1,0 @@
--- gpu_bus::expand_value meets its contract: a byte taken 257 times has the byte in both halves.
--- Assumes nothing.
-use borrow.Author.Rules.{rules}
-use Rattle.gpu_bus.proofs.Lengths.{two_bytes_expand}
-use Rattle.gpu_bus.proofs.expand_value.Statement.{statement}
-use Rattle.gpu_bus.proofs.expand_value.Tie as tie
-
-pub expand-value-spec : {M : Type 1} → statement M
-expand-value-spec = tie.close (tie.spec (search rules) (λ c. search (rules, two_bytes_expand)))

@@ -1,0 +1,17 @@
+-- obj_texels::affine::turn_line meets its contract: the calls give the matrix, the box's middle, the row and column 0.
+-- Assumes nothing.
+use Prim.Native.Nat.{◌/◌}
+use mathlib.Core.Path.{sym, ap₂}
+use lib.IntN.{pos, ◌-ℤ◌}
+use Rattle.obj_texels.proofs.Turns.{turn_of_is}
+use Rattle.obj_texels.proofs.affine.turn_line.Goals as goal
+
+pub returns : goal.returns
+returns c =
+    let x = c in
+    let row = x in
+    let height = row in
+    let width = height in
+    turn_of_is _ _ _ _ _ _ _ _ width.get_affine_matrix-matrix.ensures width.box_width-half_width.ensures.0
+    (ap₂ (λ z h. z -ℤ pos (h / 2)) row.row-row.ensures.0 (sym height.box_height-half_height.ensures.0))
+    x.turn_start.ensures c.turn_start-2.ensures

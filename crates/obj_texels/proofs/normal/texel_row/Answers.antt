@@ -1,0 +1,43 @@
+-- obj_texels::normal::texel_row meets its contract: a turn sets the eight columns of one tile, and the others stay transparent.
+-- Assumes nothing.
+use Prim.Native.Nat.{◌-◌, ◌≤◌}
+use native.Mathlib.Omega.{arith}
+use mathlib.Core.Path.{sym, ap, ◌∙◌}
+use lib.ListN.{get_or-replicate}
+use Rattle.rgb15.specs.Colour.{rgb, transparent}
+use Rattle.rows.proofs.Tiles.{tiles_set_more, tiles_set-all}
+use Rattle.obj_texels.proofs.Texels.{row_texel-inside, row_texel_outside}
+use Rattle.obj_texels.proofs.normal.texel_row.Goals as goal
+
+abbrev start : goal.At-loop-t invariant-loop decreases-loop → goal.Start invariant-loop decreases-loop
+start loop = loop
+
+pub loop-t-preserved : goal.loop-t-preserved
+loop-t-preserved c =
+    let fifth = c in
+    let made = fifth in
+    let turn = made in
+    let loop = turn in
+    let at = (start loop).args in
+    let t< = turn.loop-t-test.true in
+    let width≤ = (start loop).requires.decoded.width≤ in (
+      omega (arith, t<),
+      tiles_set_more _ _ made.shown_tile-eight.result loop.loop-t.invariant.1 (omega (arith, t<, width≤)) made.shown_tile-eight.ensures
+          (λ k k<.
+          ap rgb
+          (sym
+          (row_texel-inside at.reading at.mapping at.vram.now at.palette.now at.attrs at.y _
+          (omega (arith, t<, k<))))),
+    )
+
+pub returns : goal.returns
+returns c =
+    let loop = c in
+    let pre = (start loop).requires in
+    let at = (start loop).args in
+    tiles_set-all loop.loop-t.invariant.1 (omega (arith, loop.loop-t.invariant.0, pre.decoded.width≤))
+    (λ x x≥ x<.
+    ap rgb
+    (row_texel_outside at.reading at.mapping at.vram.now at.palette.now at.attrs at.y x
+    (omega (arith, pre.whole, c.loop-t-test.false, x≥)))
+    ∙ sym (get_or-replicate 128 x (rgb transparent) (rgb 0) x<))

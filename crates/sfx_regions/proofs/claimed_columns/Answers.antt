@@ -1,0 +1,20 @@
+-- sfx_regions::claimed_columns meets its contract: a window's columns lie between its edges, where its rows hold the line.
+-- Assumes nothing.
+use Rattle.sfx_regions.proofs.Spans.{claimed_some, claimed_none}
+use Rattle.sfx_regions.proofs.claimed_columns.Goals as goal
+
+pub returns-then-on-contains_y : goal.returns-then-on-contains_y
+returns-then-on-contains_y c =
+    let rows = c in
+    let right = rows in
+    let left = right in
+    claimed_some left.args.on _ _
+    left.left-left.ensures right.right-right.ensures rows.contains_y.ensures c.if-on-contains_y.true
+
+pub returns-else-on-contains_y : goal.returns-else-on-contains_y
+returns-else-on-contains_y c =
+    let rows = c in
+    let right = rows in
+    let left = right in
+    claimed_none left.args.on _ _
+    left.left-left.ensures right.right-right.ensures rows.contains_y.ensures c.if-on-contains_y.false
