@@ -1,7 +1,9 @@
 -- gpu_bus::write_8 meets its contract: a law for each return.
 -- Assumes nothing.
+use mathlib.Core.Bool.{not}
+use mathlib.Core.Path.{ap}
 use borrow.Author.Rules.{rules}
-use Rattle.gpu_bus.proofs.Lengths.{video-half}
+use Rattle.gpu_bus.proofs.Lengths.{palette-half, video-half}
 use Rattle.gpu_bus.proofs.Answers.{byte_registers, byte-length, byte_palette, byte_video, byte_tiles, byte_oam, byte-other}
 use Rattle.gpu_bus.proofs.write_8.Goals as goal
 
@@ -12,16 +14,13 @@ pub returns-then-not-have_lengths : goal.returns-then-not-have_lengths
 returns-then-not-have_lengths c = search (rules, byte-length)
 
 pub put_half-requires : goal.put_half-requires
-put_half-requires c = search rules
+put_half-requires c = search (rules, palette-half)
 
 -- The halfword lies in video memory.
 pub put_half-requires-then-takes_byte : goal.put_half-requires-then-takes_byte
 put_half-requires-then-takes_byte c =
-    let halved = c in
-    let offset = halved in
-    let tested = offset in
-    video-half _ _ _ tested.have_lengths.ensures tested.if-not-have_lengths.false
-    halved.even-then-takes_byte.ensures offset.video_offset-ofs.ensures.1
+    video-half _ _ _ c.have_lengths.ensures (ap not c.if-not-have_lengths.false)
+    c.even-then-takes_byte.ensures c.video_offset-ofs.ensures.1
 
 pub returns-in-Palram : goal.returns-in-Palram
 returns-in-Palram c = search (rules, byte_palette)

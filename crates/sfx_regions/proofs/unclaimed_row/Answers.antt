@@ -2,15 +2,12 @@
 -- Assumes nothing.
 use Prim.Native.Nat.{◌-◌}
 use borrow.Author.Rules.{rules}
-use borrow.Author.Tests.{not-true}
 use Rattle.rows.proofs.Tabbed.{tabbed_none, tabbed_more}
 use Rattle.rows.proofs.Tab.{tab_replicate}
 use Rattle.sfx_regions.proofs.unclaimed_row.Goals as goal
 
 pub returns-then-not-obj_window : goal.returns-then-not-obj_window
-returns-then-not-obj_window c =
-    let start = c in
-    rw (not-true start.args.obj-window c.if-not-obj_window.true) (tab_replicate _ 240)
+returns-then-not-obj_window c = rw c.if-not-obj_window.true (tab_replicate _ 240)
 
 pub loop-x-init : goal.loop-x-init
 loop-x-init c = search (rules, tabbed_none)

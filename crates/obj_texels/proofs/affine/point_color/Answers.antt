@@ -7,23 +7,15 @@ use Rattle.obj_sprites.proofs.Points.{color_at_bounds, color_at-inside, color_at
 use Rattle.obj_texels.specs.Code.{point_at}
 use Rattle.obj_texels.proofs.affine.point_color.Goals as goal
 
--- Where the point has been computed.
-abbrev placed : goal.After-is_inside-2 → goal.After-point_at-y
-placed tested = tested
-
-abbrev start : goal.After-is_inside-2 → goal.Start
-start tested = (placed tested)
-
 bounds : (c : goal.Then-is_inside)
-    → let x = (placed c).point_at-x.result in
-    let y = (placed c).point_at-y.result in
-    let attrs = (start c).args.attrs in
+    → let x = c.point_at-x.result in
+    let y = c.point_at-y.result in
+    let attrs = c.args.attrs in
     ((2 ^ 16 ≤ x) × (x < 2 ^ 16 + attrs.width)) × ((2 ^ 16 ≤ y) × (y < 2 ^ 16 + attrs.height))
 bounds c =
-    let tested = c in
-    let at = (start tested).args in
+    let at = c.args in
     color_at_bounds at.reading at.mapping at.vram.now at.palette.now at.attrs _ _ (2 ^ 16)
-    tested.is_inside.ensures tested.is_inside-2.ensures c.if-is_inside.true
+    c.is_inside.ensures c.is_inside-2.ensures c.if-is_inside.true
 
 pub overflow_sub-sprite_x : goal.overflow_sub-sprite_x
 overflow_sub-sprite_x c = omega (arith, bounds c)
@@ -33,7 +25,7 @@ overflow_sub-sprite_y c = omega (arith, bounds c)
 
 pub read_texel-requires : goal.read_texel-requires
 read_texel-requires c =
-    let pre = (start c).requires in
+    let pre = c.requires in
     let inside = bounds c in (
       pre.turned.lent,
       record { decoded = pre.turned.decoded; base_of = pre.base_of; x< = omega arith; y< = omega arith },
@@ -41,22 +33,20 @@ read_texel-requires c =
 
 pub returns-then-is_inside : goal.returns-then-is_inside
 returns-then-is_inside c =
-    let tested = c in
-    let at = (start tested).args in
+    let at = c.args in
     color_at-inside at.reading at.mapping at.vram.now at.palette.now at.attrs _ _ (2 ^ 16)
-    tested.is_inside.ensures tested.is_inside-2.ensures
+    c.is_inside.ensures c.is_inside-2.ensures
     {p = point_at at.turn.x at.turn.pa at.i at.attrs.width}
     {q = point_at at.turn.y at.turn.pc at.i at.attrs.height}
-    (placed tested).point_at-x.ensures (placed tested).point_at-y.ensures c.if-is_inside.true
+    c.point_at-x.ensures c.point_at-y.ensures c.if-is_inside.true
     c.read_texel.ensures
 
 pub returns-else-is_inside : goal.returns-else-is_inside
 returns-else-is_inside c =
-    let tested = c in
-    let at = (start tested).args in
+    let at = c.args in
     sym
     (color_at_outside at.reading at.mapping at.vram.now at.palette.now at.attrs _ _ (2 ^ 16)
-    tested.is_inside.ensures tested.is_inside-2.ensures
+    c.is_inside.ensures c.is_inside-2.ensures
     {p = point_at at.turn.x at.turn.pa at.i at.attrs.width}
     {q = point_at at.turn.y at.turn.pc at.i at.attrs.height}
-    (placed tested).point_at-x.ensures (placed tested).point_at-y.ensures c.if-is_inside.false)
+    c.point_at-x.ensures c.point_at-y.ensures c.if-is_inside.false)

@@ -8,10 +8,6 @@ use Rattle.obj_texels.proofs.affine.turn_line.Goals as goal
 
 pub returns : goal.returns
 returns c =
-    let x = c in
-    let row = x in
-    let height = row in
-    let width = height in
-    turn_of_is _ _ _ _ _ _ _ _ width.get_affine_matrix-matrix.ensures width.box_width-half_width.ensures.0
-    (ap₂ (λ z h. z -ℤ pos (h / 2)) row.row-row.ensures.0 (sym height.box_height-half_height.ensures.0))
-    x.turn_start.ensures c.turn_start-2.ensures
+    turn_of_is _ _ _ _ _ _ _ _ c.get_affine_matrix-matrix.ensures c.box_width-half_width.ensures.0
+    (ap₂ (λ z h. z -ℤ pos (h / 2)) c.row-row.ensures.0 (sym c.box_height-half_height.ensures.0))
+    c.turn_start.ensures c.turn_start-2.ensures

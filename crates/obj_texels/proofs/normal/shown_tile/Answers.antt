@@ -6,11 +6,7 @@ use Rattle.obj_texels.proofs.normal.shown_tile.Goals as goal
 
 pub returns : goal.returns
 returns c =
-    let addressed = c in
-    let flipped = addressed in
-    let bank = flipped in
-    let start = bank in
-    let at = start.args in
+    let at = c.args in
     row_shown at.reading at.mapping at.vram.now at.palette.now at.attrs at.y at.t
-    (omega (arith, start.requires.row.whole)) start.requires.t< flipped.flip-tile.ensures.0 addressed.tile_at-tile_addr.ensures.0
-    bank.palette_bank-bank.ensures.0 c.tile_row.ensures
+    (omega (arith, c.requires.row.whole)) c.requires.t< c.flip-tile.ensures.0 c.tile_at-tile_addr.ensures.0
+    c.palette_bank-bank.ensures.0 c.tile_row.ensures

@@ -9,20 +9,13 @@ use Rattle.rows.proofs.Tiles.{tiles_set_more, tiles_set-all}
 use Rattle.obj_texels.proofs.Texels.{row_texel-inside, row_texel_outside}
 use Rattle.obj_texels.proofs.normal.texel_row.Goals as goal
 
-abbrev start : goal.At-loop-t invariant-loop decreases-loop → goal.Start invariant-loop decreases-loop
-start loop = loop
-
 pub loop-t-preserved : goal.loop-t-preserved
 loop-t-preserved c =
-    let fifth = c in
-    let made = fifth in
-    let turn = made in
-    let loop = turn in
-    let at = (start loop).args in
-    let t< = turn.loop-t-test.true in
-    let width≤ = (start loop).requires.decoded.width≤ in (
+    let at = c.args in
+    let t< = c.loop-t-test.true in
+    let width≤ = c.requires.decoded.width≤ in (
       omega (arith, t<),
-      tiles_set_more _ _ made.shown_tile-eight.result loop.loop-t.invariant.1 (omega (arith, t<, width≤)) made.shown_tile-eight.ensures
+      tiles_set_more _ _ c.shown_tile-eight.result c.loop-t.invariant.1 (omega (arith, t<, width≤)) c.shown_tile-eight.ensures
           (λ k k<.
           ap rgb
           (sym
@@ -32,10 +25,9 @@ loop-t-preserved c =
 
 pub returns : goal.returns
 returns c =
-    let loop = c in
-    let pre = (start loop).requires in
-    let at = (start loop).args in
-    tiles_set-all loop.loop-t.invariant.1 (omega (arith, loop.loop-t.invariant.0, pre.decoded.width≤))
+    let pre = c.requires in
+    let at = c.args in
+    tiles_set-all c.loop-t.invariant.1 (omega (arith, c.loop-t.invariant.0, pre.decoded.width≤))
     (λ x x≥ x<.
     ap rgb
     (row_texel_outside at.reading at.mapping at.vram.now at.palette.now at.attrs at.y x
