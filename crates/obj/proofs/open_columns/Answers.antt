@@ -1,0 +1,12 @@
+-- obj::open_columns meets its contract: a sprite that tests priority is passed over at a closed column.
+-- Assumes nothing.
+use Rattle.obj.proofs.Skip.{walked_closed, walked_back_closed}
+use Rattle.obj.proofs.open_columns.Goals as goal
+
+pub returns-in-Normal : goal.returns-in-Normal
+returns-in-Normal c =
+    let at = c.args in
+    let first = c.first_open-first in (
+      walked_closed at.entries.now at.attrs c.in-Window.keys1 first.ensures c.last_open.ensures.from,
+      walked_back_closed at.entries.now at.attrs c.in-Window.keys1 c.last_open.ensures,
+    )

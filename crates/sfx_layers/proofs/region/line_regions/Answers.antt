@@ -1,0 +1,15 @@
+-- sfx_layers::region::line_regions meets its contract: each region's word is that of what the region permits.
+-- Assumes nothing.
+use Rattle.sfx_layers.proofs.Columns.{regions_are}
+use Rattle.sfx_layers.proofs.region.line_regions.Goals as goal
+
+pub returns : goal.returns
+returns c =
+    regions_are _ _ _ _ _
+    c.read_dispcnt-objects.ensures.obj_is
+    c.region_of.ensures
+    c.region_of-2.ensures
+    c.region_of-3.ensures
+    c.region_of-4.ensures
+    c.region_of-5.ensures
+    c.region_row.ensures
