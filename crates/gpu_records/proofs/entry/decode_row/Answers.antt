@@ -1,6 +1,5 @@
 -- gpu_records::entry::decode_row meets its contract: a turn sets a record to that of its cell.
 -- Assumes nothing.
-use Prim.Native.Nat.{◌-◌}
 use native.Mathlib.Omega.{arith}
 use mathlib.Core.Path.{ap, ◌∙◌}
 use Rattle.rows.proofs.Tabbed.{tabbed_none, tabbed_more, tabbed-all}

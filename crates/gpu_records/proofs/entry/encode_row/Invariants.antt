@@ -7,7 +7,7 @@ use Rattle.gpu_records.proofs.Rows.{entry_at}
 use Rattle.gpu_records.proofs.entry.encode_row.Given as goal
 
 abbrev pub invariant-loop-k : goal.invariant-loop-k
-invariant-loop-k l = Passed entry_cells (λ l.k _. entry_at l.records l.k) 240 l.initial.bytes l.k l.bytes
+invariant-loop-k l = Passed entry_cells (λ j _. entry_at l.records j) 240 l.initial.bytes l.k l.bytes
 
 abbrev pub decreases-loop-k : goal.decreases-loop-k
 decreases-loop-k l = 240 - l.k
