@@ -4,17 +4,14 @@ use native.Mathlib.Nat.{eq-or-lt_of_le}
 use native.Mathlib.Omega.{arith}
 use mathlib.Core.Path.{◌≡◌, sym, subst}
 use mathlib.Core.Bool.{true}
-use mathlib.Core.Logic.{⊎_elim}
-use mathlib.Core.List.{List, [], ◌∷◌}
+use mathlib.Core.Logic.{◌⊎◌, inl, inr, ⊎_elim}
+use mathlib.Core.List.{List}
 use borrow.Author.Tests.{le-leb}
-use denote.Enum.Declared.{tag_of}
-use types.Run.{OneOf, miss}
 use Rattle.rows.specs.Cells.{cell_at}
 use Rattle.obj_entries.specs.Entry.{entry_cells}
 use Rattle.obj_entries.specs.declared.Entry.{Entry}
 use Rattle.obj_sprites.specs.declared.attrs.ObjAttrs.{ObjAttrs}
 use Rattle.obj_sprites.specs.declared.attrs.ObjMode.{ObjMode}
-use Rattle.obj_sprites.specs.contracts.attrs.ObjMode.{the_type}
 use Rattle.obj.specs.Put.{passed_over}
 use Rattle.obj.specs.Code.{Walked, WalkedBack, Closed, PassedOver}
 
@@ -54,18 +51,16 @@ pub closed-read : (entries : List ℕ) (priority column : ℕ) {e : Entry} → e
     → Closed entries priority column
 closed-read entries priority column e-is h = rw (sym e-is) h
 
--- At a closed column an ordinary or a semi-transparent sprite is passed over; their numbers among the variants are 0 and 1.
-passed_over_closed : (mode : ObjMode) (priority : ℕ) (e : Entry) → OneOf (0 ∷ 1 ∷ []) (tag_of the_type mode)
+-- At a closed column an ordinary or a semi-transparent sprite is passed over.
+passed_over_closed : (mode : ObjMode) (priority : ℕ) (e : Entry) → (mode ≡ ObjMode.Normal) ⊎ (mode ≡ ObjMode.Sfx)
     → e.priority ≤ priority
     → passed_over mode priority e ≡ true
 unfolding passed_over
-passed_over_closed ObjMode.Normal priority e one closed = le-leb e.priority priority closed
-passed_over_closed ObjMode.Sfx priority e one closed = le-leb e.priority priority closed
-passed_over_closed ObjMode.Window priority e one closed = absurd (miss (0 ∷ 1 ∷ []) 2 tt one)
-passed_over_closed ObjMode.Forbidden priority e one closed = le-leb e.priority priority closed
+passed_over_closed mode priority e (inl mode_is) closed = rw mode_is (le-leb e.priority priority closed)
+passed_over_closed mode priority e (inr mode_is) closed = rw mode_is (le-leb e.priority priority closed)
 
 -- Walks over closed columns are walks over columns at which the sprite is passed over.
-module _ (entries : List ℕ) (s : ObjAttrs) (one : OneOf (0 ∷ 1 ∷ []) (tag_of the_type s.objmode)) where
+module _ (entries : List ℕ) (s : ObjAttrs) (one : (s.objmode ≡ ObjMode.Normal) ⊎ (s.objmode ≡ ObjMode.Sfx)) where
   pub walked_closed : {a b c r : ℕ} → Walked (Closed entries s.priority) a b r → r ≤ c
       → Walked (PassedOver entries s) a c r
   walked_closed w h =

@@ -2,12 +2,11 @@
 -- No contract cites this file. Assumes nothing.
 use Prim.Native.Nat.{ℕ, ◌+◌, ◌≤◌, ◌<◌}
 use native.Mathlib.Numerals.{add-one}
+use mathlib.Core.Logic.{◌⊎◌, inl, inr}
 use mathlib.Core.Path.{◌≡◌, refl, sym, ap, ◌∙◌}
 use mathlib.Core.Bool.{true, false}
-use mathlib.Core.List.{List, [], ◌∷◌}
+use mathlib.Core.List.{List}
 use lib.ListN.{length}
-use denote.Enum.Declared.{tag_of}
-use types.Run.{OneOf, miss}
 use Rattle.rgb15.specs.Colour.{transparent}
 use Rattle.rows.specs.Cells.{map_row}
 use Rattle.rows.proofs.Cells.{map_row-all, map_row_cong}
@@ -29,7 +28,6 @@ use Rattle.obj.specs.Code.{put_row}
 use Rattle.obj_sprites.specs.declared.attrs.ObjAttrs.{ObjAttrs}
 use Rattle.obj_sprites.specs.declared.attrs.ObjType.{ObjType}
 use Rattle.obj_entries.specs.declared.Entry.{Entry}
-use Rattle.obj_sprites.specs.contracts.attrs.ObjType.{the_type}
 use Rattle.obj_entries.proofs.Entries.{AllBytes, exact-entry_cells}
 use Rattle.obj.proofs.Pixels.{put_pixel-transparent, put_row_none}
 
@@ -45,15 +43,13 @@ module _ (reading : Reading) (mapping : ObjMapping) (vram palette oam : List ℕ
   unfolding typed_color
   typed_color_normal type type_is = rw type_is
 
-  -- Both affine types, whose numbers among the variants are 1 and 3.
-  pub typed_color_affine : (type : ObjType) → OneOf (1 ∷ 3 ∷ []) (tag_of the_type type)
+  -- Both affine types.
+  pub typed_color_affine : (type : ObjType) → (type ≡ ObjType.Affine) ⊎ (type ≡ ObjType.AffineDoubleSize)
       → typed_color type reading mapping vram palette oam s line
       ≡ affine_obj_color reading mapping vram palette (matrix oam s.affine_index) s line
   unfolding typed_color
-  typed_color_affine ObjType.Normal one = absurd (miss (1 ∷ 3 ∷ []) 0 tt one)
-  typed_color_affine ObjType.Affine one = refl
-  typed_color_affine ObjType.Hidden one = absurd (miss (1 ∷ 3 ∷ []) 2 tt one)
-  typed_color_affine ObjType.AffineDoubleSize one = refl
+  typed_color_affine type (inl type_is) = rw type_is
+  typed_color_affine type (inr type_is) = rw type_is
 
 module _ (reading : Reading) (o : Source) (line n : ℕ) where
   -- A sprite that is not drawn changes nothing.

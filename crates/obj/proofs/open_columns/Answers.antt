@@ -7,6 +7,6 @@ pub returns-in-Normal : goal.returns-in-Normal
 returns-in-Normal c =
     let at = c.args in
     let first = c.first_open-first in (
-      walked_closed at.entries.now at.attrs c.in-Window.keys1 first.ensures c.last_open.ensures.from,
-      walked_back_closed at.entries.now at.attrs c.in-Window.keys1 c.last_open.ensures,
+      walked_closed at.entries.now at.attrs c.in-Normal.is first.ensures c.last_open.ensures.from,
+      walked_back_closed at.entries.now at.attrs c.in-Normal.is c.last_open.ensures,
     )

@@ -12,9 +12,7 @@ pub returns-then-open : goal.returns-then-open
 returns-then-open c = search (rules, put_row_closed, normal_color_outside)
 
 pub flip-sprite_y-requires : goal.flip-sprite_y-requires
-flip-sprite_y-requires c =
-    let begun = start c in
-    omega (arith, boxed_normal begun.args.attrs.height begun.pre.type_is)
+flip-sprite_y-requires c = omega (arith, boxed_normal c.args.attrs.height c.requires.type_is)
 
 pub returns : goal.returns
 returns c =

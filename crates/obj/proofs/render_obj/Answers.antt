@@ -16,4 +16,4 @@ returns-in-Normal c =
 
 pub returns-in-Affine : goal.returns-in-Affine
 returns-in-Affine c =
-    rw (typed_color_affine _ _ _ _ _ _ _ _ c.in-Affine.keys3) c.render_affine_obj.ensures
+    rw (typed_color_affine _ _ _ _ _ _ _ _ c.in-Affine.is) c.render_affine_obj.ensures

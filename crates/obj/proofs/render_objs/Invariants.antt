@@ -7,7 +7,7 @@ use Rattle.obj.proofs.render_objs.Given as goal
 abbrev pub invariant-loop-obj : goal.invariant-loop-obj
 invariant-loop-obj l =
     SpritesUpTo l.reading
-    (record { l.vram = l.vram; l.palette = l.palette; l.oam = l.oam; l.mapping = l.mapping; start = l.tiles_start }) l.line
+    (record { vram = l.vram; palette = l.palette; oam = l.oam; mapping = l.mapping; start = l.tiles_start }) l.line
     l.initial.entries l.obj l.entries
 
 abbrev pub decreases-loop-obj : goal.decreases-loop-obj
