@@ -9,24 +9,25 @@ use Rattle.obj_texels.proofs.Colors.{affine_obj_color-inside, affine_obj_color_o
 use Rattle.explain_obj.proofs.Columns.{between_outside}
 use Rattle.explain_obj.proofs.affine_obj_color.Goals as goal
 
--- The column lies in the box.
-held : (c : goal.Then-is_inside)
-    → let left = c.left-left.result in
-    let at = c.args in
-    (left ≤ at.view.column + 272) × (at.view.column + 272 < left + c.box_width.result)
-held c = within_bounds _ _ _ (sym c.is_inside.ensures ∙ c.if-is_inside.true)
-
+-- The column lies in the box, here and below.
 pub overflow_sub-i : goal.overflow_sub-i
-overflow_sub-i c = (held c).0
+overflow_sub-i c =
+    let bounds : (c.left-left.result ≤ c.args.view.column + 272) × (c.args.view.column + 272 < c.left-left.result + c.box_width.result)
+        = within_bounds _ _ _ (sym c.is_inside.ensures ∙ c.if-is_inside.true) in
+    bounds.0
 
 pub point_color-requires : goal.point_color-requires
-point_color-requires c = let bounds = held c in search rules
+point_color-requires c =
+    let bounds : (c.left-left.result ≤ c.args.view.column + 272) × (c.args.view.column + 272 < c.left-left.result + c.box_width.result)
+        = within_bounds _ _ _ (sym c.is_inside.ensures ∙ c.if-is_inside.true) in
+    search rules
 
 pub returns-then-is_inside : goal.returns-then-is_inside
 returns-then-is_inside c =
     let left = c.left-left in
     let width = c.box_width in
-    let bounds = held c in
+    let bounds : (c.left-left.result ≤ c.args.view.column + 272) × (c.args.view.column + 272 < c.left-left.result + c.box_width.result)
+        = within_bounds _ _ _ (sym c.is_inside.ensures ∙ c.if-is_inside.true) in
     c.point_color.ensures
     ∙ affine_obj_color-inside _ _ _ _ _ _ _ left.ensures.0 _ _ c.turn_line-turn.ensures _ (omega arith) bounds.0 (omega arith)
 

@@ -9,32 +9,31 @@ use Rattle.obj_texels.proofs.Colors.{normal_color_outside}
 use Rattle.explain_obj.proofs.Columns.{between_outside, normal_color-read}
 use Rattle.explain_obj.proofs.normal_color.Goals as goal
 
--- The column lies in the box.
-held : (c : goal.Then-is_inside)
-    → let left = c.left-left.result in
-    let at = c.args in
-    (left ≤ at.view.column + 272) × (at.view.column + 272 < left + at.attrs.width)
-held c = within_bounds _ _ _ (sym c.is_inside.ensures ∙ c.if-is_inside.true)
-
+-- The column lies in the box, here and below.
 pub overflow_sub-at : goal.overflow_sub-at
-overflow_sub-at c = (held c).0
+overflow_sub-at c =
+    let bounds : (c.left-left.result ≤ c.args.view.column + 272) × (c.args.view.column + 272 < c.left-left.result + c.args.attrs.width)
+        = within_bounds _ _ _ (sym c.is_inside.ensures ∙ c.if-is_inside.true) in
+    bounds.0
 
 pub flip-sprite_x-requires : goal.flip-sprite_x-requires
-flip-sprite_x-requires c = omega (arith, held c)
+flip-sprite_x-requires c =
+    let bounds : (c.left-left.result ≤ c.args.view.column + 272) × (c.args.view.column + 272 < c.left-left.result + c.args.attrs.width)
+        = within_bounds _ _ _ (sym c.is_inside.ensures ∙ c.if-is_inside.true) in
+    omega arith
 
 pub flip-sprite_y-requires : goal.flip-sprite_y-requires
-flip-sprite_y-requires c =
-    let begun = start c in
-    omega (arith, boxed_normal begun.args.attrs.height begun.pre.type_is)
+flip-sprite_y-requires c = omega (arith, boxed_normal c.args.attrs.height c.requires.type_is)
 
 pub returns-then-is_inside : goal.returns-then-is_inside
 returns-then-is_inside c =
-    let bounds = held c in search (rules, normal_color-read)
+    let bounds : (c.left-left.result ≤ c.args.view.column + 272) × (c.args.view.column + 272 < c.left-left.result + c.args.attrs.width)
+        = within_bounds _ _ _ (sym c.is_inside.ensures ∙ c.if-is_inside.true) in
+    search (rules, normal_color-read)
 
 pub returns-else-is_inside : goal.returns-else-is_inside
 returns-else-is_inside c =
     let left = c.left-left in
-    let begun = start c in
     sym
-    (normal_color_outside _ _ _ _ _ _ left.result left.ensures.0 refl refl _ begun.pre.column<
-    (between_outside _ _ _ left.ensures.0 _ _ begun.pre.column< c.is_inside.ensures c.if-is_inside.false))
+    (normal_color_outside _ _ _ _ _ _ left.result left.ensures.0 refl refl _ c.requires.column<
+    (between_outside _ _ _ left.ensures.0 _ _ c.requires.column< c.is_inside.ensures c.if-is_inside.false))

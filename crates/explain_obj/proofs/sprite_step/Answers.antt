@@ -2,7 +2,6 @@
 -- Assumes nothing.
 use mathlib.Core.Path.{refl, sym, ◌∙◌}
 use borrow.Author.Rules.{rules}
-use borrow.Author.Tests.{not-true}
 use Rattle.obj_sprites.proofs.Drawn.{drawn-on_line, drawn_far}
 use Rattle.explain_obj.proofs.Columns.{sprite_step-drawn, sprite_step_passed}
 use Rattle.explain_obj.proofs.sprite_step.Goals as goal
@@ -10,7 +9,7 @@ use Rattle.explain_obj.proofs.sprite_step.Goals as goal
 pub returns-then-not-is_near : goal.returns-then-not-is_near
 returns-then-not-is_near c =
     let read = c.read_obj_attrs.ensures in
-    let is-far = sym c.is_near.ensures ∙ not-true _ c.if-not-is_near.true in
+    let is-far = sym c.is_near.ensures ∙ c.if-not-is_near.true in
     sprite_step_passed _ _ _ _ _ _ read.0 (drawn_far _ _ _ _ _ read.1.height≤ is-far) refl
 
 pub typed_color-pixel_color-requires : goal.typed_color-pixel_color-requires

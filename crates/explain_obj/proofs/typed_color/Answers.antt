@@ -10,4 +10,4 @@ pub returns-in-Normal : goal.returns-in-Normal
 returns-in-Normal c = rw (typed_color_normal _ _ _ _ _ _ _ _ c.in-Normal.is) c.normal_color.ensures
 
 pub returns-in-Affine : goal.returns-in-Affine
-returns-in-Affine c = rw (typed_color_affine _ _ _ _ _ _ _ _ c.in-Affine.keys3) c.affine_obj_color.ensures
+returns-in-Affine c = rw (typed_color_affine _ _ _ _ _ _ _ _ c.in-Affine.is) c.affine_obj_color.ensures
