@@ -1,11 +1,9 @@
 -- What a draw gives, by its verdict. No contract cites this file. Assumes nothing.
 use Prim.Native.Nat.{ℕ}
-use mathlib.Core.Path.{◌≡◌, sym, ap, ◌∙◌}
+use mathlib.Core.Path.{◌≡◌, refl, sym, ap, ◌∙◌}
 use mathlib.Core.Bool.{Bool, true, false, cond}
 use mathlib.Core.List.{List, [], ◌∷◌}
 use lib.ListN.{length}
-use denote.Enum.Declared.{tag_of}
-use types.Run.{OneOf, miss}
 use Rattle.rows.proofs.Cells.{length_row_of}
 use Rattle.memory.specs.Sizes.{output_size}
 use Rattle.regs.specs.Registers.{dispcnt}
@@ -91,19 +89,19 @@ module _ (c : Call) (entries output : List ℕ) where
       unfolding draw given number_of
       draws-blank output_is = rw (sym v-is, found, output_is)
 
-  -- The verdicts that are neither; their numbers among the variants are 0 to 6.
-  pub draws-refused : {number : ℕ} (v : Verdict) → OneOf (0 ∷ 1 ∷ 2 ∷ 3 ∷ 4 ∷ 5 ∷ 6 ∷ []) (tag_of the_type v)
+  -- The verdicts that are neither.
+  pub draws-refused : {number : ℕ} (v : Verdict) → (v ≡ Blank → ⊥) → (v ≡ Accepted → ⊥)
       → v ≡ verdict c entries output → number ≡ number_of v → Draws c entries output number entries output
   unfolding draw given
-  draws-refused BadReading one v-is n-is = rw (n-is, sym v-is)
-  draws-refused BadLength one v-is n-is = rw (n-is, sym v-is)
-  draws-refused BadLine one v-is n-is = rw (n-is, sym v-is)
-  draws-refused BadMode one v-is n-is = rw (n-is, sym v-is)
-  draws-refused BadBldy one v-is n-is = rw (n-is, sym v-is)
-  draws-refused BadReference one v-is n-is = rw (n-is, sym v-is)
-  draws-refused BadEntry one v-is n-is = rw (n-is, sym v-is)
-  draws-refused Blank one v-is n-is = absurd (miss (0 ∷ 1 ∷ 2 ∷ 3 ∷ 4 ∷ 5 ∷ 6 ∷ []) 7 tt one)
-  draws-refused Accepted one v-is n-is = absurd (miss (0 ∷ 1 ∷ 2 ∷ 3 ∷ 4 ∷ 5 ∷ 6 ∷ []) 8 tt one)
+  draws-refused BadReading unblank unaccepted v-is n-is = rw (n-is, sym v-is)
+  draws-refused BadLength unblank unaccepted v-is n-is = rw (n-is, sym v-is)
+  draws-refused BadLine unblank unaccepted v-is n-is = rw (n-is, sym v-is)
+  draws-refused BadMode unblank unaccepted v-is n-is = rw (n-is, sym v-is)
+  draws-refused BadBldy unblank unaccepted v-is n-is = rw (n-is, sym v-is)
+  draws-refused BadReference unblank unaccepted v-is n-is = rw (n-is, sym v-is)
+  draws-refused BadEntry unblank unaccepted v-is n-is = rw (n-is, sym v-is)
+  draws-refused Blank unblank unaccepted v-is n-is = absurd (unblank refl)
+  draws-refused Accepted unblank unaccepted v-is n-is = absurd (unaccepted refl)
 
 -- The same draw, its reference numbers given as equal ones.
 pub draws_same : {q r : References} (reading line : ℕ) (vram palette oam registers entries output : List ℕ)
