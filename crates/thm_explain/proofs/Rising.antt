@@ -70,7 +70,7 @@ module _ {key : ℕ → ℕ} {high : ℕ} where
   rises-lower h (ends u) = ends (le_trans h u)
   rises-lower h (goes u r) = goes (le_trans h u) r
 
-  pub rises-append : {low middle : ℕ} {l m : List ℕ} → Rises key middle low l → Rises key high middle m
+  pub rises-append : {middle low : ℕ} {l m : List ℕ} → Rises key middle low l → Rises key high middle m
       → Rises key high low (l ++ m)
   rises-append (ends h) s = rises-lower h s
   rises-append (goes h r) s = goes h (rises-append r s)
