@@ -4,6 +4,7 @@
 
 BUILT := host/target/release
 FRAMES := host/target/frames
+PROVED := host/target/proved
 
 # One crate more at a time than there are processors: `rt` waits for all that run before it starts the next, and one more
 # fills the wait.
@@ -41,10 +42,11 @@ proofs: setup
 setup:
 	@tools/setup
 
-# Proves the library and writes target/staticlib/libashlarkin.a, which the host links.
+# Proves the library and writes $(PROVED)/libashlarkin.a, which the host links.
 library: setup
-	@rt check ashlarkin
-	@rt staticlib ashlarkin
+	@cd crates/ashlarkin_c && rt lib
+	@mkdir -p $(PROVED)
+	@cmp -s crates/ashlarkin_c/out/libashlarkin_c.a $(PROVED)/libashlarkin.a || cp crates/ashlarkin_c/out/libashlarkin_c.a $(PROVED)/libashlarkin.a
 
 host: library
 	@cargo build -q --release -p ashlarkin-cli

@@ -1,6 +1,6 @@
 /* Ashlarkin: lines of the Game Boy Advance's picture, drawn from captured video memory by a proved library.
 
-   Link libashlarkin.a, which `rt staticlib ashlarkin` writes to target/staticlib/. It is object code for x86-64 Linux.
+   Link libashlarkin.a, which `make library` writes to host/target/proved/. It is object code for x86-64 Linux.
    include/example.c draws a whole frame.
 
    Every function answers 0 where it did its work, and otherwise one of the numbers below. They are tested in this

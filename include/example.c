@@ -1,6 +1,6 @@
 /* Draws the frame of a capture and writes it as a PPM picture to standard output.
 
-       gcc -std=c11 -Iinclude include/example.c target/staticlib/libashlarkin.a -o example
+       gcc -std=c11 -Iinclude include/example.c host/target/proved/libashlarkin.a -o example
        ./example CAPTURE R|H > frame.ppm
 
    CAPTURE is a folder with vram.bin, palette.bin, oam.bin and registers.bin of 131072, 1024, 1024 and 86 bytes. */

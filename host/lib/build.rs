@@ -1,4 +1,4 @@
-//! Links the proved library, which `rt staticlib ashlarkin` writes to `target/staticlib/` of the repository.
+//! Links the proved library, which `make library` writes to `host/target/proved/` of the repository.
 
 use std::path::{Path, PathBuf};
 use std::{env, fs, process};
@@ -14,7 +14,7 @@ fn main() {
     println!("cargo:rerun-if-changed={}", archive.display());
     if !archive.is_file() {
         eprintln!("{}: the proved library isn't there", archive.display());
-        eprintln!("build it with `rt staticlib ashlarkin` at the repository's root, or set {FOLDER} to its folder");
+        eprintln!("build it with `make library` at the repository's root, or set {FOLDER} to its folder");
         process::exit(1);
     }
     println!("cargo:rustc-link-search=native={}", folder.display());
@@ -27,6 +27,6 @@ fn folder() -> PathBuf {
     let here = env::var_os("CARGO_MANIFEST_DIR").expect("cargo sets it for build scripts");
     let root = Path::new(&here).join("../..");
     let named = env::var_os(FOLDER).map(PathBuf::from);
-    let folder = root.join(named.unwrap_or_else(|| "target/staticlib".into()));
+    let folder = root.join(named.unwrap_or_else(|| "host/target/proved".into()));
     fs::canonicalize(&folder).unwrap_or(folder)
 }

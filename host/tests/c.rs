@@ -13,7 +13,7 @@ fn root() -> PathBuf {
 
 /// The proved library, where the wrapper's build finds it.
 fn archive() -> PathBuf {
-    let folder = env::var_os("ASHLARKIN_LIB_DIR").unwrap_or_else(|| "target/staticlib".into());
+    let folder = env::var_os("ASHLARKIN_LIB_DIR").unwrap_or_else(|| "host/target/proved".into());
     root().join(folder).join("libashlarkin.a")
 }
 

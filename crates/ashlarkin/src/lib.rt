@@ -1,4 +1,5 @@
-// The routines that a host program in C or Rust calls: include/ashlarkin.h says the same in C. Lent buffers don't overlap.
+// The routines that a host program calls, here for other crates: crates/ashlarkin_c exports them to C under the same names,
+// and include/ashlarkin.h says the same in C. Lent buffers don't overlap.
 
 #![tactic(auto)]
 
@@ -20,8 +21,7 @@ use gpu_records::{BgAffine, ObjBufferEntry};
 use gpu_step::Steps;
 
 // A line drawn: 0, or the number of the refusal, which changes nothing lent.
-#[unsafe(no_mangle)]
-pub extern "C" fn ashlarkin_draw(
+pub fn ashlarkin_draw(
     reading: u32,
     line: u32,
     x2: i32,
@@ -54,30 +54,21 @@ pub extern "C" fn ashlarkin_draw(
 }
 
 // A row of entries reset: 0, or 2 for another length.
-#[unsafe(no_mangle)]
-pub extern "C" fn ashlarkin_reset(entries: &mut [u8]) -> u32
+pub fn ashlarkin_reset(entries: &mut [u8]) -> u32
     ensures { Resets entries.old result entries.new }
 {
     obj_entries::reset(entries)
 }
 
 // The four reference numbers stepped at a line's end: 0, or 2 for another length, or 6.
-#[unsafe(no_mangle)]
-pub extern "C" fn ashlarkin_step(
-    pb2: i16,
-    pd2: i16,
-    pb3: i16,
-    pd3: i16,
-    references: &mut [u8],
-) -> u32
+pub fn ashlarkin_step(pb2: i16, pd2: i16, pb3: i16, pd3: i16, references: &mut [u8]) -> u32
     ensures { StepsTo (record { pb2 = pb2; pd2 = pd2; pb3 = pb3; pd3 = pd3 }) references.old result references.new }
 {
     gpu_step::step(Steps { pb2, pd2, pb3, pd3 }, references)
 }
 
 // Both backgrounds stepped at a line's end, each in place: 0, or 6 with both as they were.
-#[unsafe(no_mangle)]
-pub extern "C" fn ashlarkin_step_records(bg2: &mut BgAffine, bg3: &mut BgAffine) -> u32
+pub fn ashlarkin_step_records(bg2: &mut BgAffine, bg3: &mut BgAffine) -> u32
     ensures { StepsRecords bg2.old bg3.old result bg2.new bg3.new }
 {
     let stepped = gpu_records::step_pair(*bg2, *bg3);
@@ -87,8 +78,7 @@ pub extern "C" fn ashlarkin_step_records(bg2: &mut BgAffine, bg3: &mut BgAffine)
 }
 
 // A line drawn over a row of 240 records, with the byte form's answers; the row is written only where the line is drawn.
-#[unsafe(no_mangle)]
-pub extern "C" fn ashlarkin_draw_records(
+pub fn ashlarkin_draw_records(
     reading: u32,
     line: u32,
     x2: i32,
@@ -123,8 +113,7 @@ pub extern "C" fn ashlarkin_draw_records(
 }
 
 // Why a column of a line has its colour, by the entries as they stand after the draw; its number is 0 or the refusal's.
-#[unsafe(no_mangle)]
-pub extern "C" fn ashlarkin_explain(
+pub fn ashlarkin_explain(
     reading: u32,
     line: u32,
     x2: i32,
@@ -157,16 +146,14 @@ pub extern "C" fn ashlarkin_explain(
 }
 
 // The byte at an address of pages 5 to 7: its number is 0, or 2 or 9 with value 0.
-#[unsafe(no_mangle)]
-pub extern "C" fn ashlarkin_read8(address: u32, vram: &[u8], palette: &[u8], oam: &[u8]) -> Byte
+pub fn ashlarkin_read8(address: u32, vram: &[u8], palette: &[u8], oam: &[u8]) -> Byte
     ensures { Reads address (memories_of vram.now palette.now oam.now) result }
 {
     gpu_bus::read_8(address, vram, palette, oam)
 }
 
 // A byte stored to pages 5 to 7, by the mode in the registers: 0, written or not, or 2 or 9.
-#[unsafe(no_mangle)]
-pub extern "C" fn ashlarkin_store8(
+pub fn ashlarkin_store8(
     address: u32,
     value: u8,
     registers: &[u8],
@@ -183,8 +170,7 @@ pub extern "C" fn ashlarkin_store8(
 }
 
 // A halfword stored to pages 5 to 7: 0, or 2, 9 or 11.
-#[unsafe(no_mangle)]
-pub extern "C" fn ashlarkin_store16(
+pub fn ashlarkin_store16(
     address: u32,
     value: u16,
     vram: &mut [u8],
