@@ -12,6 +12,7 @@ use ashlarkin::{
 };
 use explain::Reason;
 use gpu_bus::Byte;
+use std::io;
 
 const VIDEO_RAM_SIZE: usize = 0x20000;
 
@@ -127,57 +128,58 @@ fn draw_backdrop(reading: u32, line: u32, x2: i32, low: u8, bldy: u8) -> Drawn {
     draw_alone(reading, line, x2, vram, oam, backdrop_registers(low, bldy))
 }
 
-fn print_pixel(pixel: u32) {
-    io::write_all(1, b" 0x");
-    io::print_hex(1, pixel as u64, 6);
+fn print_pixel(rt: &impl Print, pixel: u32) -> io::Result<()> {
+    print!(rt; " 0x{pixel:06x}")
 }
 
-fn print_number(name: &[u8], number: u32) {
-    io::write_all(1, name);
-    io::write_all(1, b": returns ");
-    io::print_decimal(1, number as u64);
+fn print_number(rt: &impl Print, name: &str, number: u32) -> io::Result<()> {
+    print!(rt; "{name}: returns {number}")
 }
 
-fn print(name: &[u8], drawn: Drawn) {
-    print_number(name, drawn.number);
-    io::write_all(1, b", pixels");
-    print_pixel(drawn.first);
-    print_pixel(drawn.second);
-    io::write_all(1, b"\n");
+fn print(rt: &impl Print, name: &str, drawn: Drawn) -> io::Result<()> {
+    print_number(rt, name, drawn.number)?;
+    print!(rt; ", pixels")?;
+    print_pixel(rt, drawn.first)?;
+    print_pixel(rt, drawn.second)?;
+    println!(rt;)
 }
 
-fn lines() {
-    print(b"line 159", draw_backdrop(R, 159, 0, 0, 0));
-    print(b"line 160", draw_backdrop(R, 160, 0, 0, 0));
+fn lines(rt: &impl Print) -> io::Result<()> {
+    print(rt, "line 159", draw_backdrop(R, 159, 0, 0, 0))?;
+    print(rt, "line 160", draw_backdrop(R, 160, 0, 0, 0))
 }
 
-fn modes() {
-    print(b"mode 7", draw_backdrop(R, 0, 0, 0x07, 0));
-    print(b"mode 7, forced blank", draw_backdrop(R, 0, 0, 0x87, 0));
+fn modes(rt: &impl Print) -> io::Result<()> {
+    print(rt, "mode 7", draw_backdrop(R, 0, 0, 0x07, 0))?;
+    print(rt, "mode 7, forced blank", draw_backdrop(R, 0, 0, 0x87, 0))
 }
 
-fn weights() {
-    print(b"BLDY 16, reading R", draw_backdrop(R, 0, 0, 0, 16));
-    print(b"BLDY 17, reading R", draw_backdrop(R, 0, 0, 0, 17));
-    print(b"BLDY 17, reading H", draw_backdrop(H, 0, 0, 0, 17));
+fn weights(rt: &impl Print) -> io::Result<()> {
+    print(rt, "BLDY 16, reading R", draw_backdrop(R, 0, 0, 0, 16))?;
+    print(rt, "BLDY 17, reading R", draw_backdrop(R, 0, 0, 0, 17))?;
+    print(rt, "BLDY 17, reading H", draw_backdrop(H, 0, 0, 0, 17))
 }
 
 // The step of 2^28 - 1 by pb2.
-fn print_step(name: &[u8], pb2: i16) {
+fn print_step(rt: &impl Print, name: &str, pb2: i16) -> io::Result<()> {
     let mut references = [0u8; 16];
     references[0] = 0xff;
     references[1] = 0xff;
     references[2] = 0xff;
     references[3] = 0x0f;
-    print_number(name, ashlarkin_step(pb2, 0, 0, 0, &mut references));
-    io::write_all(1, b"\n");
+    print_number(rt, name, ashlarkin_step(pb2, 0, 0, 0, &mut references))?;
+    println!(rt;)
 }
 
-fn references() {
-    print(b"reference 2^28 - 1", draw_backdrop(R, 0, LIMIT - 1, 0, 0));
-    print(b"reference 2^28", draw_backdrop(R, 0, LIMIT, 0, 0));
-    print_step(b"reference 2^28 - 1 stepped by 0", 0);
-    print_step(b"reference 2^28 - 1 stepped by 1", 1);
+fn references(rt: &impl Print) -> io::Result<()> {
+    print(
+        rt,
+        "reference 2^28 - 1",
+        draw_backdrop(R, 0, LIMIT - 1, 0, 0),
+    )?;
+    print(rt, "reference 2^28", draw_backdrop(R, 0, LIMIT, 0, 0))?;
+    print_step(rt, "reference 2^28 - 1 stepped by 0", 0)?;
+    print_step(rt, "reference 2^28 - 1 stepped by 1", 1)
 }
 
 // Tile 0 has a blue first dot, and tile 1 a red one.
@@ -190,13 +192,17 @@ fn tie_tiles() -> [u8; VIDEO_RAM_SIZE] {
 
 // Sprite 0 shows tile 1 and the 127 others tile 0; all stand at column 0 with priority 0. A tie that went to the later
 // sprite would print 0x0000f8.
-fn tie() {
+fn tie(rt: &impl Print) -> io::Result<()> {
     let vram = tie_tiles();
     let mut oam = [0u8; OAM_SIZE];
     oam[4] = 1;
     let mut registers = [0u8; REGISTERS_SIZE];
     registers[0x01] = 0x10;
-    print(b"tie of sprites", draw_alone(R, 0, 0, vram, oam, registers));
+    print(
+        rt,
+        "tie of sprites",
+        draw_alone(R, 0, 0, vram, oam, registers),
+    )
 }
 
 // A draw of a bitmap alone, from x2 on.
@@ -206,12 +212,12 @@ fn draw_bitmap(x2: i32, vram: [u8; VIDEO_RAM_SIZE]) -> Drawn {
 }
 
 // The words 0x8000 and 0x8001 in mode 3. If bit 15 were masked before the test, the first would print 0x000000.
-fn transparent_word() {
+fn transparent_word(rt: &impl Print) -> io::Result<()> {
     let mut vram = [0u8; VIDEO_RAM_SIZE];
     vram[1] = 0x80;
     vram[2] = 0x01;
     vram[3] = 0x80;
-    print(b"words 0x8000 and 0x8001", draw_bitmap(0, vram));
+    print(rt, "words 0x8000 and 0x8001", draw_bitmap(0, vram))
 }
 
 // The bitmap's first two words are red, and the first dot of tile 512 is set.
@@ -248,21 +254,26 @@ fn draw_window(high: u8, entries: &mut [u8]) -> Drawn {
 
 // The window sprite marks column 0. The second draw has sprites off: without the first one's mark it would print 0x00f800
 // twice.
-fn window_marks() {
+fn window_marks(rt: &impl Print) -> io::Result<()> {
     let mut entries = reset_row();
-    print(b"window marks, sprites on", draw_window(0x94, &mut entries));
     print(
-        b"window marks, sprites off",
+        rt,
+        "window marks, sprites on",
+        draw_window(0x94, &mut entries),
+    )?;
+    print(
+        rt,
+        "window marks, sprites off",
         draw_window(0x84, &mut entries),
-    );
+    )
 }
 
 // Column 0 lies at -1/256, left of the bitmap, and column 1 at 255/256, in its first dot, which is red. Rounded toward
 // zero both would lie in that dot.
-fn negative_point() {
+fn negative_point(rt: &impl Print) -> io::Result<()> {
     let mut vram = [0u8; VIDEO_RAM_SIZE];
     vram[0] = 0x1f;
-    print(b"point -1/256", draw_bitmap(-1, vram));
+    print(rt, "point -1/256", draw_bitmap(-1, vram))
 }
 
 // Why a column of line 0 has its colour, with nothing there but the backdrop.
@@ -276,42 +287,40 @@ fn explain_backdrop(registers: [u8; REGISTERS_SIZE], column: u32) -> Reason {
     )
 }
 
-fn print_field(name: &[u8], field: u32) {
-    io::write_all(1, name);
-    io::print_decimal(1, field as u64);
+fn print_field(rt: &impl Print, name: &str, field: u32) -> io::Result<()> {
+    print!(rt; "{name}{field}")
 }
 
-fn print_colour(colour: u16) {
-    io::write_all(1, b" 0x");
-    io::print_hex(1, colour as u64, 4);
+fn print_colour(rt: &impl Print, colour: u16) -> io::Result<()> {
+    print!(rt; " 0x{colour:04x}")
 }
 
-fn print_reason(name: &[u8], reason: Reason) {
-    print_number(name, reason.number);
-    print_field(b", blank ", reason.blank);
-    print_field(b", region ", reason.region);
-    print_field(b", layers ", reason.top);
-    print_field(b" ", reason.bottom);
-    print_field(b", effect ", reason.effect);
-    io::write_all(1, b", colours");
-    print_colour(reason.top_color);
-    print_colour(reason.bottom_color);
-    print_field(b", weights ", reason.first_weight as u32);
-    print_field(b" ", reason.second_weight as u32);
-    io::write_all(1, b", pixel");
-    print_pixel(reason.pixel);
-    io::write_all(1, b"\n");
+fn print_reason(rt: &impl Print, name: &str, reason: Reason) -> io::Result<()> {
+    print_number(rt, name, reason.number)?;
+    print_field(rt, ", blank ", reason.blank)?;
+    print_field(rt, ", region ", reason.region)?;
+    print_field(rt, ", layers ", reason.top)?;
+    print_field(rt, " ", reason.bottom)?;
+    print_field(rt, ", effect ", reason.effect)?;
+    print!(rt; ", colours")?;
+    print_colour(rt, reason.top_color)?;
+    print_colour(rt, reason.bottom_color)?;
+    print_field(rt, ", weights ", reason.first_weight as u32)?;
+    print_field(rt, " ", reason.second_weight as u32)?;
+    print!(rt; ", pixel")?;
+    print_pixel(rt, reason.pixel)?;
+    println!(rt;)
 }
 
 // Black by 0 is still black, though it changes nothing. Forced blank names no layer, and has no column 240 either.
-fn reasons() {
+fn reasons(rt: &impl Print) -> io::Result<()> {
     let empty = [0u8; REGISTERS_SIZE];
-    print_reason(b"why, empty screen", explain_backdrop(empty, 0));
+    print_reason(rt, "why, empty screen", explain_backdrop(empty, 0))?;
     let black = backdrop_registers(0, 0);
-    print_reason(b"why, black by 0", explain_backdrop(black, 0));
+    print_reason(rt, "why, black by 0", explain_backdrop(black, 0))?;
     let blank = backdrop_registers(0x87, 0);
-    print_reason(b"why, forced blank", explain_backdrop(blank, 239));
-    print_reason(b"why, column 240", explain_backdrop(blank, 240));
+    print_reason(rt, "why, forced blank", explain_backdrop(blank, 239))?;
+    print_reason(rt, "why, column 240", explain_backdrop(blank, 240))
 }
 
 // What a store returned, and the bytes that were read at two addresses afterwards.
@@ -325,7 +334,7 @@ struct Stored {
 
 fn after_store(number: u32, at: u32, vram: &[u8], palette: &[u8], oam: &[u8]) -> Stored {
     let first = ashlarkin_read8(at, vram, palette, oam);
-    let next = std::num::wrapping_add_u32(at, 1);
+    let next = at.wrapping_add(1);
     let second = ashlarkin_read8(next, vram, palette, oam);
     Stored {
         number,
@@ -354,62 +363,70 @@ fn store_halfword(address: u32, at: u32) -> Stored {
     after_store(number, at, &vram, &palette, &oam)
 }
 
-fn print_byte(byte: u32) {
-    io::write_all(1, b" 0x");
-    io::print_hex(1, byte as u64, 2);
+fn print_byte(rt: &impl Print, byte: u32) -> io::Result<()> {
+    print!(rt; " 0x{byte:02x}")
 }
 
-fn print_stored(name: &[u8], stored: Stored) {
-    print_number(name, stored.number);
-    io::write_all(1, b", bytes from 0x");
-    io::print_hex(1, stored.at as u64, 8);
-    print_byte(stored.first);
-    print_byte(stored.second);
-    io::write_all(1, b"\n");
+fn print_stored(rt: &impl Print, name: &str, stored: Stored) -> io::Result<()> {
+    print_number(rt, name, stored.number)?;
+    let at = stored.at;
+    print!(rt; ", bytes from 0x{at:08x}")?;
+    print_byte(rt, stored.first)?;
+    print_byte(rt, stored.second)?;
+    println!(rt;)
 }
 
 // 0x06018000 is 0x06010000 again. There sprite tiles start in mode 0, and take no byte; in mode 3 they start 0x4000 later.
-fn bytes() {
+fn bytes(rt: &impl Print) -> io::Result<()> {
     print_stored(
-        b"byte to 0x06018000, mode 3",
+        rt,
+        "byte to 0x06018000, mode 3",
         store_byte(0x0601_8000, 3, 0x0601_0000),
-    );
+    )?;
     print_stored(
-        b"byte to 0x06018000, mode 0",
+        rt,
+        "byte to 0x06018000, mode 0",
         store_byte(0x0601_8000, 0, 0x0601_0000),
-    );
+    )?;
     print_stored(
-        b"byte to 0x05000401",
+        rt,
+        "byte to 0x05000401",
         store_byte(0x0500_0401, 0, 0x0500_0000),
-    );
+    )?;
     print_stored(
-        b"byte to 0x07000400",
+        rt,
+        "byte to 0x07000400",
         store_byte(0x0700_0400, 0, 0x0700_0000),
-    );
+    )?;
     print_stored(
-        b"byte to 0x15000000",
+        rt,
+        "byte to 0x15000000",
         store_byte(0x1500_0000, 0, 0x0500_0000),
-    );
+    )
 }
 
 // Odd addresses are refused in video memory alone.
-fn halfwords() {
+fn halfwords(rt: &impl Print) -> io::Result<()> {
     print_stored(
-        b"halfword to 0x06018000",
+        rt,
+        "halfword to 0x06018000",
         store_halfword(0x0601_8000, 0x0601_0000),
-    );
+    )?;
     print_stored(
-        b"halfword to 0x06000001",
+        rt,
+        "halfword to 0x06000001",
         store_halfword(0x0600_0001, 0x0600_0000),
-    );
+    )?;
     print_stored(
-        b"halfword to 0x05000001",
+        rt,
+        "halfword to 0x05000001",
         store_halfword(0x0500_0001, 0x0500_0000),
-    );
+    )?;
     print_stored(
-        b"halfword to 0x07000400",
+        rt,
+        "halfword to 0x07000400",
         store_halfword(0x0700_0400, 0x0700_0000),
-    );
+    )
 }
 
 fn read_byte(address: u32, palette: &[u8]) -> Byte {
@@ -418,36 +435,37 @@ fn read_byte(address: u32, palette: &[u8]) -> Byte {
     ashlarkin_read8(address, &vram, palette, &oam)
 }
 
-fn print_read(name: &[u8], read: Byte) {
-    print_number(name, read.number);
-    io::write_all(1, b", byte");
-    print_byte(read.value);
-    io::write_all(1, b"\n");
+fn print_read(rt: &impl Print, name: &str, read: Byte) -> io::Result<()> {
+    print_number(rt, name, read.number)?;
+    print!(rt; ", byte")?;
+    print_byte(rt, read.value)?;
+    println!(rt;)
 }
 
 // The palette's first byte is 0xe0. Lengths are judged before the page.
-fn reads() {
+fn reads(rt: &impl Print) -> io::Result<()> {
     let palette = colours();
     let short = [0u8; PALETTE_RAM_SIZE - 1];
-    print_read(b"read of 0x05000400", read_byte(0x0500_0400, &palette));
-    print_read(b"read of 0x15000000", read_byte(0x1500_0000, &palette));
+    print_read(rt, "read of 0x05000400", read_byte(0x0500_0400, &palette))?;
+    print_read(rt, "read of 0x15000000", read_byte(0x1500_0000, &palette))?;
     print_read(
-        b"read of 0x15000000, palette short",
+        rt,
+        "read of 0x15000000, palette short",
         read_byte(0x1500_0000, &short),
-    );
+    )
 }
 
-fn main() {
-    lines();
-    modes();
-    weights();
-    references();
-    tie();
-    transparent_word();
-    window_marks();
-    negative_point();
-    reasons();
-    bytes();
-    halfwords();
-    reads();
+fn main(rt: HostRuntime) -> io::Result<()> {
+    lines(&rt)?;
+    modes(&rt)?;
+    weights(&rt)?;
+    references(&rt)?;
+    tie(&rt)?;
+    transparent_word(&rt)?;
+    window_marks(&rt)?;
+    negative_point(&rt)?;
+    reasons(&rt)?;
+    bytes(&rt)?;
+    halfwords(&rt)?;
+    reads(&rt)
 }
