@@ -6,11 +6,18 @@ use crate::list;
 use crate::list::{lent, lent_mut, read, read_given, signed, signed_half, size, word};
 use ashlarkin::{ashlarkin_draw, ashlarkin_explain, ashlarkin_reset, ashlarkin_step};
 use explain::Reason;
+use std::io;
+use std::io::Read;
 
 // Palette, OAM and registers, if they follow; false where the list ends before.
-fn read_memory(head: &[u8; list::HEAD_SIZE], memory: &mut [u8; list::MEMORY_ROOM]) -> bool {
+fn read_memory(
+    input: &mut impl Read,
+    head: &[u8; list::HEAD_SIZE],
+    memory: &mut [u8; list::MEMORY_ROOM],
+) -> io::Result<bool> {
     let size = size(head, list::PALETTE) + size(head, list::OAM) + size(head, list::REGISTERS);
     read_given(
+        input,
         word(head, list::FOLLOW) / list::MEMORY_FOLLOWS % 2 == 1,
         memory,
         size,
@@ -19,34 +26,57 @@ fn read_memory(head: &[u8; list::HEAD_SIZE], memory: &mut [u8; list::MEMORY_ROOM
 
 // Entries or output, as long as word k of the head says, if the bit says that they follow.
 fn read_row(
+    input: &mut impl Read,
     head: &[u8; list::HEAD_SIZE],
     bit: u32,
     k: usize,
     row: &mut [u8; list::ROW_ROOM],
-) -> bool
+) -> io::Result<bool>
     requires bit_nonzero { 0 < bit }
     requires k_bound { k < 17 }
 {
-    read_given(word(head, list::FOLLOW) / bit % 2 == 1, row, size(head, k))
+    read_given(
+        input,
+        word(head, list::FOLLOW) / bit % 2 == 1,
+        row,
+        size(head, k),
+    )
 }
 
 // The memory and the entries before the call, if they follow.
 fn read_before(
+    input: &mut impl Read,
     head: &[u8; list::HEAD_SIZE],
     memory: &mut [u8; list::MEMORY_ROOM],
     entries: &mut [u8; list::ROW_ROOM],
-) -> bool {
-    read_memory(head, memory) & read_row(head, list::ENTRIES_FOLLOW, list::ENTRIES, entries)
+) -> io::Result<bool> {
+    let memory_read = read_memory(input, head, memory)?;
+    let entries_read = read_row(input, head, list::ENTRIES_FOLLOW, list::ENTRIES, entries)?;
+    Ok(memory_read & entries_read)
 }
 
 // The entries and the output that the oracle left, if they follow.
 fn read_after(
+    input: &mut impl Read,
     head: &[u8; list::HEAD_SIZE],
     entries: &mut [u8; list::ROW_ROOM],
     output: &mut [u8; list::ROW_ROOM],
-) -> bool {
-    read_row(head, list::ENTRIES_AFTER_FOLLOW, list::ENTRIES, entries)
-        & read_row(head, list::OUTPUT_AFTER_FOLLOWS, list::OUTPUT, output)
+) -> io::Result<bool> {
+    let entries_read = read_row(
+        input,
+        head,
+        list::ENTRIES_AFTER_FOLLOW,
+        list::ENTRIES,
+        entries,
+    )?;
+    let output_read = read_row(
+        input,
+        head,
+        list::OUTPUT_AFTER_FOLLOWS,
+        list::OUTPUT,
+        output,
+    )?;
+    Ok(entries_read & output_read)
 }
 
 // The draw of a record, with as much lent as it says.
@@ -91,18 +121,19 @@ fn call(
 }
 
 pub(crate) fn replay_rows(
+    input: &mut impl Read,
     head: &[u8; list::HEAD_SIZE],
     images: &[u8; list::IMAGES_SIZE],
     memory: &mut [u8; list::MEMORY_ROOM],
     entries: &mut [u8; list::ROW_ROOM],
     output: &mut [u8; list::ROW_ROOM],
-) -> Found {
-    let before = read_before(head, memory, entries);
+) -> io::Result<Found> {
+    let before = read_before(input, head, memory, entries)?;
     let mut oracle_entries = *entries;
     let mut oracle_output = *output;
-    let after = read_after(head, &mut oracle_entries, &mut oracle_output);
+    let after = read_after(input, head, &mut oracle_entries, &mut oracle_output)?;
     let number = call(head, images, memory, entries, output);
-    compare_rows(
+    Ok(compare_rows(
         before & after,
         number,
         entries,
@@ -110,7 +141,7 @@ pub(crate) fn replay_rows(
         word(head, list::NUMBER),
         &oracle_entries,
         &oracle_output,
-    )
+    ))
 }
 
 // The step of a record.
@@ -124,20 +155,24 @@ fn step(head: &[u8; list::HEAD_SIZE], references: &mut [u8]) -> u32 {
     )
 }
 
-pub(crate) fn replay_step(head: &[u8; list::HEAD_SIZE]) -> Found {
+pub(crate) fn replay_step(
+    input: &mut impl Read,
+    head: &[u8; list::HEAD_SIZE],
+) -> io::Result<Found> {
     let mut references = [0u8; list::REFERENCES_ROOM];
     let mut oracle_references = [0u8; list::REFERENCES_ROOM];
-    let whole = read(&mut references) & read(&mut oracle_references);
+    let before = read(input, &mut references)?;
+    let after = read(input, &mut oracle_references)?;
     let number = step(head, &mut references);
-    compare(
-        whole,
+    Ok(compare(
+        before & after,
         number,
         &references,
         b"",
         word(head, list::NUMBER),
         &oracle_references,
         b"",
-    )
+    ))
 }
 
 // The reason of a record's column.
@@ -183,21 +218,22 @@ fn fields_of(reason: Reason) -> [u8; list::REASON_SIZE] {
 }
 
 pub(crate) fn replay_reason(
+    input: &mut impl Read,
     head: &[u8; list::HEAD_SIZE],
     images: &[u8; list::IMAGES_SIZE],
     memory: &mut [u8; list::MEMORY_ROOM],
     entries: &mut [u8; list::ROW_ROOM],
-) -> Found {
-    let before = read_before(head, memory, entries);
+) -> io::Result<Found> {
+    let before = read_before(input, head, memory, entries)?;
     let mut oracle_fields = [0u8; list::REASON_SIZE];
-    let after = read(&mut oracle_fields);
+    let after = read(input, &mut oracle_fields)?;
     let given = reason(head, images, memory, entries);
     let fields = fields_of(given);
-    compare_fields(
+    Ok(compare_fields(
         before & after,
         given.number,
         &fields,
         word(head, list::NUMBER),
         &oracle_fields,
-    )
+    ))
 }

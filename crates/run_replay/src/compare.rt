@@ -49,10 +49,10 @@ pub(crate) fn compare(
     if number != oracle_number {
         return Found::Number(number);
     }
-    if !check::same(entries, oracle_entries) {
+    if entries != oracle_entries {
         return Found::Entries(first_difference(entries, oracle_entries));
     }
-    if !check::same(output, oracle_output) {
+    if output != oracle_output {
         return Found::Output(first_difference(output, oracle_output));
     }
     Found::Same

@@ -1,6 +1,9 @@
 // Reading the list.
 ghost use Rattle.std.specs.Prelude.{◌^◌, ◌<◌};
 
+use std::io;
+use std::io::{ErrorKind, Read};
+
 // The five video memories.
 pub(crate) const IMAGES_SIZE: usize = 655680;
 
@@ -93,24 +96,32 @@ const SIGN: u32 = 0x8000_0000;
 const HALF_SIGN: u32 = 0x8000;
 
 // Fills the buffer from the list; false where the list ends before.
-pub(crate) fn read(buffer: &mut [u8]) -> bool {
-    let n = io::read_full(0, buffer);
-    n == buffer.len()
+pub(crate) fn read(input: &mut impl Read, buffer: &mut [u8]) -> io::Result<bool> {
+    match input.read_exact(buffer) {
+        Ok(()) => Ok(true),
+        Err(e) if e.kind() == ErrorKind::UnexpectedEof => Ok(false),
+        Err(e) => Err(e),
+    }
 }
 
-pub(crate) fn read_head(head: &mut [u8; HEAD_SIZE]) -> bool {
-    read(head)
+pub(crate) fn read_head(input: &mut impl Read, head: &mut [u8; HEAD_SIZE]) -> io::Result<bool> {
+    read(input, head)
 }
 
 // Fills the first bytes of the buffer, if it follows; false where the list ends before or the buffer is too short.
-pub(crate) fn read_given(follows: bool, buffer: &mut [u8], size: usize) -> bool {
+pub(crate) fn read_given(
+    input: &mut impl Read,
+    follows: bool,
+    buffer: &mut [u8],
+    size: usize,
+) -> io::Result<bool> {
     if !follows {
-        return true;
+        return Ok(true);
     }
     if size > buffer.len() {
-        return false;
+        return Ok(false);
     }
-    read(&mut buffer[0..size])
+    read(input, &mut buffer[0..size])
 }
 
 // Word k of a head.

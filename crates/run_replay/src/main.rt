@@ -32,6 +32,8 @@ use bus::{replay_read, replay_store};
 use calls::{replay_reason, replay_rows, replay_step};
 use compare::Found;
 use list::{read, word};
+use std::io;
+use std::io::Read;
 use tally::COUNTS;
 
 // No list has as many records; a loop has to end.
@@ -39,6 +41,7 @@ const MOST_RECORDS: u32 = 1_000_000;
 
 // The call of a record.
 fn replay(
+    input: &mut impl Read,
     head: &[u8; list::HEAD_SIZE],
     images: &mut [u8; list::IMAGES_SIZE],
     palette: &mut [u8; list::PALETTE_ROOM],
@@ -46,61 +49,73 @@ fn replay(
     memory: &mut [u8; list::MEMORY_ROOM],
     entries: &mut [u8; list::ROW_ROOM],
     output: &mut [u8; list::ROW_ROOM],
-) -> Found {
+) -> io::Result<Found> {
     let call = word(head, list::CALL);
     if call == list::STEP {
-        replay_step(head)
+        replay_step(input, head)
     } else if call == list::EXPLAIN {
-        replay_reason(head, images, memory, entries)
+        replay_reason(input, head, images, memory, entries)
     } else if call == list::READ8 {
-        replay_read(head, images, palette, oam)
+        Ok(replay_read(head, images, palette, oam))
     } else if call > list::READ8 {
-        replay_store(head, images, palette, oam)
+        Ok(replay_store(head, images, palette, oam))
     } else {
-        replay_rows(head, images, memory, entries, output)
+        replay_rows(input, head, images, memory, entries, output)
     }
 }
 
 // Prints the text, and for each # in it the next of the numbers.
-pub(crate) fn print_text(text: &[u8], numbers: &[u64]) {
+pub(crate) fn print_text(rt: &impl Print, text: &[u8], numbers: &[u64]) -> io::Result<()> {
     let mut i = 0;
     let mut k = 0;
     while i < text.len() {
         if text[i] != b'#' {
-            io::write_all(1, &text[i..i + 1]);
+            rt.write_all(&text[i..i + 1])?;
         } else if k < numbers.len() {
-            io::print_decimal(1, numbers[k]);
+            rt.print(numbers[k])?;
             k += 1;
         }
         i += 1;
     }
+    Ok(())
 }
 
-fn print_place(text: &[u8], k: u32, place: u64) {
-    print_text(text, &[k as u64, place]);
+fn print_place(rt: &impl Print, text: &[u8], k: u32, place: u64) -> io::Result<()> {
+    print_text(rt, text, &[k as u64, place])
 }
 
 // Says where call k differs, if it does. Whether it doesn't.
-fn is_same(k: u32, found: Found) -> bool {
+fn is_same(rt: &impl Print, k: u32, found: Found) -> io::Result<bool> {
     match found {
-        Found::Same => return true,
-        Found::Number(number) => print_place(b"call #: not the number #\n", k, number as u64),
+        Found::Same => return Ok(true),
+        Found::Number(number) => {
+            print_place(rt, b"call #: not the number #\n", k, number as u64)?
+        }
         Found::Entries(place) => {
-            print_place(b"call #: entries differ from byte #\n", k, place as u64)
+            print_place(rt, b"call #: entries differ from byte #\n", k, place as u64)?
         }
         Found::Output(place) => {
-            print_place(b"call #: output differs from byte #\n", k, place as u64)
+            print_place(rt, b"call #: output differs from byte #\n", k, place as u64)?
         }
         Found::Field(place) => {
-            print_place(b"call #: field # of the answer differs\n", k, place as u64)
+            print_place(
+                rt,
+                b"call #: field # of the answer differs\n",
+                k,
+                place as u64,
+            )?
         }
-        Found::Cut => print_place(b"call #: the list ends in record #\n", k, k as u64),
+        Found::Cut => print_place(rt, b"call #: the list ends in record #\n", k, k as u64)?,
     }
-    false
+    Ok(false)
 }
 
 // The records replayed and counted, up to the first that differs.
-fn replay_all(images: &mut [u8; list::IMAGES_SIZE]) {
+fn replay_all(
+    rt: &impl Print,
+    input: &mut impl Read,
+    images: &mut [u8; list::IMAGES_SIZE],
+) -> io::Result<()> {
     let mut counts = [0u64; COUNTS];
     let mut head = [0u8; list::HEAD_SIZE];
     let mut palette = [0u8; list::PALETTE_ROOM];
@@ -110,10 +125,11 @@ fn replay_all(images: &mut [u8; list::IMAGES_SIZE]) {
     let mut output = [0u8; list::ROW_ROOM];
     let mut k: u32 = 0;
     while k < MOST_RECORDS {
-        if !list::read_head(&mut head) {
+        if !list::read_head(input, &mut head)? {
             break;
         }
         let found = replay(
+            input,
             &head,
             images,
             &mut palette,
@@ -121,27 +137,32 @@ fn replay_all(images: &mut [u8; list::IMAGES_SIZE]) {
             &mut memory,
             &mut entries,
             &mut output,
-        );
-        if !is_same(k, found) {
-            return;
+        )?;
+        if !is_same(rt, k, found)? {
+            return Ok(());
         }
         let next = tally::count_record(counts, &head, &memory);
         counts = next;
         k += 1;
     }
-    tally::print(&counts);
+    tally::print(rt, &counts)
 }
 
 // The list replayed; images is room for its video memories.
-fn replay_list(images: &mut [u8; list::IMAGES_SIZE]) {
-    if read(images) {
-        replay_all(images);
+fn replay_list(
+    rt: &impl Print,
+    input: &mut impl Read,
+    images: &mut [u8; list::IMAGES_SIZE],
+) -> io::Result<()> {
+    if read(input, images)? {
+        replay_all(rt, input, images)
     } else {
-        io::write_all(1, b"the list ends in its video memories\n");
+        println!(rt; "the list ends in its video memories")
     }
 }
 
-fn main() {
+fn main(rt: HostRuntime) -> io::Result<()> {
     let mut images = [0u8; list::IMAGES_SIZE];
-    replay_list(&mut images);
+    let mut input = rt.stdin();
+    replay_list(&rt, &mut input, &mut images)
 }

@@ -1,6 +1,7 @@
 // What the list has, counted: by group, by number, and of the lines drawn the modes, windows and effects.
 use crate::list::word;
 use crate::{list, print_text};
+use std::io;
 
 // Where each count starts.
 const NUMBERS: usize = 13;
@@ -26,7 +27,7 @@ const BLDCNT: usize = 0x850;
 fn count(counts: [u64; COUNTS], k: usize) -> [u64; COUNTS] {
     let mut more = counts;
     if k < COUNTS {
-        more[k] = std::num::wrapping_add_u64(counts[k], 1);
+        more[k] = counts[k].wrapping_add(1);
     }
     more
 }
@@ -62,7 +63,7 @@ pub(crate) fn count_record(
     all
 }
 
-pub(crate) fn print(counts: &[u64; COUNTS]) {
+pub(crate) fn print(rt: &impl Print, counts: &[u64; COUNTS]) -> io::Result<()> {
     let text = *b"reading R: #
 reading H: #
 faulty input: #
@@ -82,5 +83,5 @@ lines by the window switches 0 to 7: # # # # # # # #
 lines by the effects 0 to 3: # # # #
 # calls, 0 differences
 ";
-    print_text(&text, counts);
+    print_text(rt, &text, counts)
 }
