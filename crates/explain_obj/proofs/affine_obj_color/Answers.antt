@@ -13,13 +13,13 @@ use Rattle.explain_obj.proofs.affine_obj_color.Goals as goal
 pub overflow_sub-i : goal.overflow_sub-i
 overflow_sub-i c =
     let bounds : (c.left-left.result ≤ c.args.view.column + 272) × (c.args.view.column + 272 < c.left-left.result + c.box_width.result)
-        = within_bounds _ _ _ (sym c.is_inside.ensures ∙ c.if-is_inside.true) in
+    = within_bounds _ _ _ (sym c.is_inside.ensures ∙ c.if-is_inside.true) in
     bounds.0
 
 pub point_color-requires : goal.point_color-requires
 point_color-requires c =
     let bounds : (c.left-left.result ≤ c.args.view.column + 272) × (c.args.view.column + 272 < c.left-left.result + c.box_width.result)
-        = within_bounds _ _ _ (sym c.is_inside.ensures ∙ c.if-is_inside.true) in
+    = within_bounds _ _ _ (sym c.is_inside.ensures ∙ c.if-is_inside.true) in
     search rules
 
 pub returns-then-is_inside : goal.returns-then-is_inside
@@ -27,7 +27,7 @@ returns-then-is_inside c =
     let left = c.left-left in
     let width = c.box_width in
     let bounds : (c.left-left.result ≤ c.args.view.column + 272) × (c.args.view.column + 272 < c.left-left.result + c.box_width.result)
-        = within_bounds _ _ _ (sym c.is_inside.ensures ∙ c.if-is_inside.true) in
+    = within_bounds _ _ _ (sym c.is_inside.ensures ∙ c.if-is_inside.true) in
     c.point_color.ensures
     ∙ affine_obj_color-inside _ _ _ _ _ _ _ left.ensures.0 _ _ c.turn_line-turn.ensures _ (omega arith) bounds.0 (omega arith)
 

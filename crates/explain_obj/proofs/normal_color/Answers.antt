@@ -13,13 +13,13 @@ use Rattle.explain_obj.proofs.normal_color.Goals as goal
 pub overflow_sub-at : goal.overflow_sub-at
 overflow_sub-at c =
     let bounds : (c.left-left.result ≤ c.args.view.column + 272) × (c.args.view.column + 272 < c.left-left.result + c.args.attrs.width)
-        = within_bounds _ _ _ (sym c.is_inside.ensures ∙ c.if-is_inside.true) in
+    = within_bounds _ _ _ (sym c.is_inside.ensures ∙ c.if-is_inside.true) in
     bounds.0
 
 pub flip-sprite_x-requires : goal.flip-sprite_x-requires
 flip-sprite_x-requires c =
     let bounds : (c.left-left.result ≤ c.args.view.column + 272) × (c.args.view.column + 272 < c.left-left.result + c.args.attrs.width)
-        = within_bounds _ _ _ (sym c.is_inside.ensures ∙ c.if-is_inside.true) in
+    = within_bounds _ _ _ (sym c.is_inside.ensures ∙ c.if-is_inside.true) in
     omega arith
 
 pub flip-sprite_y-requires : goal.flip-sprite_y-requires
@@ -28,7 +28,7 @@ flip-sprite_y-requires c = omega (arith, boxed_normal c.args.attrs.height c.requ
 pub returns-then-is_inside : goal.returns-then-is_inside
 returns-then-is_inside c =
     let bounds : (c.left-left.result ≤ c.args.view.column + 272) × (c.args.view.column + 272 < c.left-left.result + c.args.attrs.width)
-        = within_bounds _ _ _ (sym c.is_inside.ensures ∙ c.if-is_inside.true) in
+    = within_bounds _ _ _ (sym c.is_inside.ensures ∙ c.if-is_inside.true) in
     search (rules, normal_color-read)
 
 pub returns-else-is_inside : goal.returns-else-is_inside

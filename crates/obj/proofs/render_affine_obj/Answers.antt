@@ -15,10 +15,10 @@ returns-then-open c =
     let left = c.left-left in
     -- Outside the box's columns the sprite has no pixel.
     let outside : NoneOutside
-        (affine_obj_color at.reading at.mapping at.vram.now at.palette.now
-        (matrix at.oam.now at.attrs.affine_index) at.attrs at.line)
-        c.first_column.result c.end_column.result
-        = affine_obj_color_outside _ _ _ _ at.attrs _ left.result left.ensures.0 _ (omega arith) (omega arith) in
+    (affine_obj_color at.reading at.mapping at.vram.now at.palette.now
+    (matrix at.oam.now at.attrs.affine_index) at.attrs at.line)
+    c.first_column.result c.end_column.result
+    = affine_obj_color_outside _ _ _ _ at.attrs _ left.result left.ensures.0 _ (omega arith) (omega arith) in
     search (rules, put_row_closed, outside)
 
 pub returns : goal.returns

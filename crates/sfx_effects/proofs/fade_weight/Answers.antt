@@ -7,8 +7,7 @@ use Rattle.sfx_effects.proofs.fade_weight.Goals as goal
 
 pub returns : goal.returns
 unfolding fade_weight
-returns c =
-    (
-      rw (c.choose.ensures, c.is_faded.ensures),
-      rw c.choose.ensures (cond_bound c.is_faded.result _ 0 c.requires.evy_bound (omega arith)),
-    )
+returns c = (
+  rw (c.choose.ensures, c.is_faded.ensures),
+  rw c.choose.ensures (cond_bound c.is_faded.result _ 0 c.requires.evy_bound (omega arith)),
+)
