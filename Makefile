@@ -6,14 +6,10 @@ BUILT := host/target/release
 FRAMES := host/target/frames
 PROVED := host/target/proved
 
-# One crate more at a time than there are processors: `rt` waits for all that run before it starts the next, and one more
-# fills the wait.
-export RT_JOBS ?= $(shell expr $$(nproc) + 1)
-
 # What is run and tested is the archive built here, even where ASHLARKIN_LIB_DIR names another.
 unexport ASHLARKIN_LIB_DIR
 
-.PHONY: run test setup tidy proofs library host host-tests compare oracle-tests c-tests coverage bench picture
+.PHONY: run test setup tidy proofs edits library host host-tests compare oracle-tests c-tests coverage bench picture
 
 run: host
 	@rm -rf $(FRAMES)
@@ -21,14 +17,13 @@ run: host
 	@echo 'drawn by the proved library, reading H:'
 	@find $(FRAMES) -name '*.png' | sort
 
-# The proofs come before the tests, which link the library that they leave proved. `rt ci`'s last line is the verdict: it is
-# printed once more at the very end, where nothing has failed and each must-fail edit was refused at a fact.
-test: setup tidy proofs host-tests compare oracle-tests c-tests
+# The proofs come before the tests. `rt ci`'s last line is the verdict: it is printed once more at the very end, where nothing
+# has failed and each must-fail edit was refused at a fact.
+test: setup tidy proofs edits host-tests compare oracle-tests c-tests
 	@tail -n 1 host/target/ci.txt
 
-# What takes seconds: layout, contracts, documents, and the tools that hold them.
+# What takes seconds: contracts, documents, and the tools that hold them. (`rt ci` refuses what isn't in `rt fmt`'s layout.)
 tidy: setup
-	@rt fmt --check
 	@tools/contracts
 	@tools/definitions
 	@tools/uncited
@@ -39,10 +34,15 @@ tidy: setup
 proofs: setup
 	@tools/ci
 
+# Reads what `rt ci` said. A few edits it tries once more, over the library's kept proofs.
+edits: library
+	@tools/edits
+
 setup:
 	@tools/setup
 
-# Proves the library and writes $(PROVED)/libashlarkin.a, which the host links.
+# Proves the library, over what earlier checks kept, and writes $(PROVED)/libashlarkin.a, which the host links. (`rt ci` keeps
+# its proofs for itself.)
 library: setup
 	@cd crates/ashlarkin_c && rt lib
 	@mkdir -p $(PROVED)
