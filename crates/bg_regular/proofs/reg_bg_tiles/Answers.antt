@@ -1,6 +1,5 @@
 -- bg_regular::reg_bg_tiles meets its contract: a turn sets the eight columns of one tile, whose entry and row are those of the definition.
 -- Assumes nothing.
-use Prim.Native.Nat.{◌-◌}
 use native.Mathlib.Omega.{arith}
 use Rattle.rows.proofs.Tiles.{tiles_set_more, tiles_set-all}
 use Rattle.bg_regular.proofs.Maps.{regular_tile_is}

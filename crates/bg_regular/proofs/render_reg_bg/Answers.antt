@@ -1,6 +1,5 @@
 -- bg_regular::render_reg_bg meets its contract: column k is column k + hofs % 8 of the line with its offset rounded down to a tile.
 -- Assumes nothing.
-use Prim.Native.Nat.{◌-◌}
 use lib.ListN.{length-replicate}
 use Rattle.rgb15.specs.Colour.{rgb, transparent}
 use Rattle.rows.proofs.Tabbed.{tabbed_none, tabbed_more}

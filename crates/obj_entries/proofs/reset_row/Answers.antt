@@ -1,6 +1,5 @@
 -- obj_entries::reset_row meets its contract: a turn puts the reset entry in its cell.
 -- Assumes nothing.
-use Prim.Native.Nat.{◌-◌}
 use borrow.Author.Rules.{rules}
 use Rattle.rows.proofs.Passed.{started, turned, filled}
 use Rattle.obj_entries.specs.Entry.{entry_cells}

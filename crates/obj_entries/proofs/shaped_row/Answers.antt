@@ -1,6 +1,5 @@
 -- obj_entries::shaped_row meets its contract: the sum of the faults is 0 if each entry has none.
 -- Assumes nothing.
-use Prim.Native.Nat.{◌-◌}
 use mathlib.Core.Path.{ap, ◌∙◌}
 use lib.Dec.{eqb}
 use borrow.Author.Rules.{rules}

@@ -1,6 +1,5 @@
 -- bg::affine::render_aff_bg meets its contract: a turn sets one column, at the point that its lifted numbers give.
 -- Assumes nothing.
-use Prim.Native.Nat.{◌-◌}
 use lib.ListN.{length-replicate}
 use Rattle.rgb15.specs.Colour.{rgb, transparent}
 use Rattle.rows.proofs.Tabbed.{tabbed_none}

@@ -1,11 +1,9 @@
 -- bg::bitmap::render_bitmap meets its contract: a turn sets one column, at the point that its lifted numbers give.
 -- Assumes nothing.
-use Prim.Native.Nat.{◌-◌}
 use lib.ListN.{length-replicate}
 use Rattle.rgb15.specs.Colour.{rgb, transparent}
 use Rattle.rows.proofs.Tabbed.{tabbed_none}
 use Rattle.bg_regular.proofs.Lines.{colored_more}
-use Rattle.bg.specs.Bitmap.{bitmap_color}
 use Rattle.bg.proofs.Pixels.{bitmap_color_is}
 use Rattle.bg.proofs.bitmap.render_bitmap.Goals as goal
 
