@@ -2,7 +2,7 @@
 use Prim.Native.Nat.{ℕ}
 use mathlib.Core.Path.{◌≡◌, refl, sym, ap, ◌∙◌}
 use mathlib.Core.Bool.{Bool, true, false, cond}
-use mathlib.Core.List.{List, [], ◌∷◌}
+use mathlib.Core.List.{List}
 use lib.ListN.{length}
 use Rattle.rows.proofs.Cells.{length_row_of}
 use Rattle.memory.specs.Sizes.{output_size}
@@ -29,7 +29,6 @@ use Rattle.gpu_judge.specs.declared.Verdict.TheVariants.{
   Accepted,
 }
 use Rattle.gpu_judge.proofs.Verdicts.{verdict_has}
-use Rattle.gpu_judge.specs.contracts.Verdict.{the_type}
 use Rattle.gpu.specs.Line.{entries_after, line_after, blank_line}
 use Rattle.gpu.specs.Draw.{given, draw, Draws}
 

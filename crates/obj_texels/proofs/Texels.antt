@@ -5,7 +5,6 @@ use native.Mathlib.Omega.{arith}
 use mathlib.Core.Path.{◌≡◌, refl, ap, ◌∙◌}
 use mathlib.Core.Bool.{Bool, true, false, cond}
 use mathlib.Core.List.{List}
-use lib.Dec.{ltb}
 use lib.ListN.{get_or, replicate, get_or-replicate}
 use lib.IntN.{pos, sub_ℕ, ◌-ℤ◌}
 use borrow.Author.Tests.{lt-ltb, le-ltb}

@@ -19,33 +19,19 @@ render_bitmap-requires c = search (rules, bg_affine_liftable)
 
 pub returns-in-Regular : goal.returns-in-Regular
 returns-in-Regular c =
-    let v = c in
-    let h = v in
-    let told = h in
-    let kind = told in
-    let display = kind in
-    regular_line_is _ _ display.read_dispcnt-dispcnt.ensures kind.of-kind.ensures _ _ _ _ display.read_16-control.ensures
-    told.in-Regular.is h.read_hofs.ensures v.read_vofs.ensures c.render_reg_bg.ensures
+    regular_line_is _ _ c.read_dispcnt-dispcnt.ensures c.of-kind.ensures _ _ _ _ c.read_16-control.ensures
+    c.in-Regular.is c.read_hofs.ensures c.read_vofs.ensures c.render_reg_bg.ensures
 
 pub returns-in-Affine : goal.returns-in-Affine
 returns-in-Affine c =
-    let numbers = c in
-    let told = numbers in
-    let kind = told in
-    let display = kind in
-    affine_line_is _ _ display.read_dispcnt-dispcnt.ensures kind.of-kind.ensures _ _ _ _ display.read_16-control.ensures
-    numbers.read_bg_affine-affine.ensures told.in-Affine.is c.render_aff_bg.ensures
+    affine_line_is _ _ c.read_dispcnt-dispcnt.ensures c.of-kind.ensures _ _ _ _ c.read_16-control.ensures
+    c.read_bg_affine-affine.ensures c.in-Affine.is c.render_aff_bg.ensures
 
 pub returns-in-Bitmap : goal.returns-in-Bitmap
 returns-in-Bitmap c =
-    let numbers = c in
-    let told = numbers in
-    let kind = told in
-    let display = kind in
-    bitmap_line_is _ _ display.read_dispcnt-dispcnt.ensures kind.of-kind.ensures _ _ _ _ display.read_16-control.ensures
-    numbers.read_bg_affine-affine-in-Bitmap.ensures told.in-Bitmap.is c.render_bitmap.ensures
+    bitmap_line_is _ _ c.read_dispcnt-dispcnt.ensures c.of-kind.ensures _ _ _ _ c.read_16-control.ensures
+    c.read_bg_affine-affine-in-Bitmap.ensures c.in-Bitmap.is c.render_bitmap.ensures
 
 pub returns-in-Absent : goal.returns-in-Absent
 returns-in-Absent c =
-    let kind = c in
-    absent_line_is _ _ kind.read_dispcnt-dispcnt.ensures kind.of-kind.ensures _ _ _ _ c.in-Absent.is
+    absent_line_is _ _ c.read_dispcnt-dispcnt.ensures c.of-kind.ensures _ _ _ _ c.in-Absent.is

@@ -11,7 +11,5 @@ loop-screen_x-init c = tabbed_none (length-replicate 240 (rgb transparent))
 
 pub loop-screen_x-preserved : goal.loop-screen_x-preserved
 loop-screen_x-preserved c =
-    let turn = c in
-    let loop = turn in
-    let column< = turn.loop-screen_x-test.true in
-    tabbed_more loop.loop-screen_x.invariant column< (regular_column_is _ _ _ _ _ _ _ _ loop.reg_bg_tiles-tiles.ensures column<)
+    let column< = c.loop-screen_x-test.true in
+    tabbed_more c.loop-screen_x.invariant column< (regular_column_is _ _ _ _ _ _ _ _ c.reg_bg_tiles-tiles.ensures column<)

@@ -22,12 +22,7 @@ put_reference-requires-4 c = search (rules, y3_found)
 
 pub returns : goal.returns
 returns c =
-    let fourth = c in
-    let third = fourth in
-    let second = third in
-    let first = second in
-    let start = first in
-    bytes_of_puts (machine start.args.to) _ start.requires.0
-    first.put_reference.ensures second.put_reference-2.ensures
-    third.put_reference-3.ensures fourth.put_reference-4.ensures
-    ∙ ap bytes_of (references_found _ start.requires.1)
+    bytes_of_puts (machine c.args.to) _ c.requires.0
+    c.put_reference.ensures c.put_reference-2.ensures
+    c.put_reference-3.ensures c.put_reference-4.ensures
+    ∙ ap bytes_of (references_found _ c.requires.1)

@@ -7,11 +7,8 @@ use Rattle.gpu_step.proofs.references_in.Goals as goal
 
 pub returns : goal.returns
 returns c =
-    let third = c in
-    let second = third in
-    let first = second in
     references_in_is _
-    (word_read _ first.reference_at-x2.type_inv ∙ first.reference_at-x2.ensures)
-    (word_read _ second.reference_at-y2.type_inv ∙ second.reference_at-y2.ensures)
-    (word_read _ third.reference_at-x3.type_inv ∙ third.reference_at-x3.ensures)
+    (word_read _ c.reference_at-x2.type_inv ∙ c.reference_at-x2.ensures)
+    (word_read _ c.reference_at-y2.type_inv ∙ c.reference_at-y2.ensures)
+    (word_read _ c.reference_at-x3.type_inv ∙ c.reference_at-x3.ensures)
     (word_read _ c.reference_at-y3.type_inv ∙ c.reference_at-y3.ensures)

@@ -19,14 +19,10 @@ sum-y3-requires c = search (rules, y3_found)
 
 pub returns : goal.returns
 returns c =
-    let third = c in
-    let second = third in
-    let first = second in
-    let start = first in
-    let by = first.struct_told-2-1.given in
-    let all = ranges_true _ start.requires in
+    let by = c.struct_told-2-1.given in
+    let all = ranges_true _ c.requires in
     sums_are _ _
-    (added _ _ all.x2_in by.0.1 first.sum-x2.ensures)
-    (added _ _ all.y2_in by.1.0.1 second.sum-y2.ensures)
-    (added _ _ all.x3_in by.1.1.0.1 third.sum-x3.ensures)
+    (added _ _ all.x2_in by.0.1 c.sum-x2.ensures)
+    (added _ _ all.y2_in by.1.0.1 c.sum-y2.ensures)
+    (added _ _ all.x3_in by.1.1.0.1 c.sum-x3.ensures)
     (added _ _ all.y3_in by.1.1.1.0.1 c.sum-y3.ensures)

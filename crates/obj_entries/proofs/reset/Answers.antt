@@ -8,4 +8,4 @@ pub returns-then-entries-ne-ENTRIES_SIZE : goal.returns-then-entries-ne-ENTRIES_
 returns-then-entries-ne-ENTRIES_SIZE c = reset-refused _ c.if-entries-ne-ENTRIES_SIZE.true
 
 pub returns : goal.returns
-returns c = let ran = c in reset_done _ (search rules) ran.reset_row.ensures
+returns c = reset_done _ (search rules) c.reset_row.ensures

@@ -12,9 +12,8 @@ loop-k-init c = search (rules, summed_none)
 
 pub loop-k-preserved : goal.loop-k-preserved
 loop-k-preserved c =
-    let turn = c in
-    let bytes = turn.shared_slice_known-1.given in
-    summed_more turn.loop-k.invariant (search rules) (search rules)
+    let bytes = c.shared_slice_known-1.given in
+    summed_more c.loop-k.invariant (search rules) (search rules)
     (rw (← entry-of-word _ bytes _ c.word_at.ensures) c.fault-faults.ensures.0)
 
 pub returns : goal.returns

@@ -7,6 +7,4 @@ use Rattle.sfx_marks.proofs.count_marks.Goals as goal
 
 pub returns : goal.returns
 returns c =
-    let third = c in
-    let start = third in
-    omega (arith, count_marks_ones start.args.marks (λ i. search rules) start.requires)
+    omega (arith, count_marks_ones c.args.marks (λ i. search rules) c.requires)

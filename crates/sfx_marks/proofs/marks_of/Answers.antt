@@ -5,11 +5,8 @@ use Rattle.sfx_marks.proofs.marks_of.Goals as goal
 
 pub returns : goal.returns
 returns c =
-    let third = c in
-    let second = third in
-    let first = second in
-    marks_of_columns _ first.requires
-    first.marks_in.ensures
-    second.marks_in-2.ensures
-    third.marks_in-3.ensures
+    marks_of_columns _ c.requires
+    c.marks_in.ensures
+    c.marks_in-2.ensures
+    c.marks_in-3.ensures
     c.marks_in-4.ensures

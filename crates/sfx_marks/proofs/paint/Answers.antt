@@ -6,19 +6,15 @@ use Rattle.sfx_marks.proofs.paint.Goals as goal
 
 pub returns : goal.returns
 returns c =
-    let third = c in
-    let second = third in
-    let first = second in
-    let start = first in
-    let o = start.args.other.now in
-    let ws = start.args.marks in
+    let o = c.args.other.now in
+    let ws = c.args.marks in
     given_to-all o ws _
     (given_to_more o ws _ 3 240 (omega arith) (omega arith)
     (given_to_more o ws _ 2 192 (omega arith) (omega arith)
     (given_to_more o ws _ 1 128 (omega arith) (omega arith)
     (given_to_more o ws _ 0 64 (omega arith) (omega arith)
-    (given_to_none o ws _ start.requires)
-    first.paint_word.ensures)
-    second.paint_word-2.ensures)
-    third.paint_word-3.ensures)
+    (given_to_none o ws _ c.requires)
+    c.paint_word.ensures)
+    c.paint_word-2.ensures)
+    c.paint_word-3.ensures)
     c.paint_word-4.ensures)

@@ -4,24 +4,23 @@ use Prim.Native.Nat.{◌+◌, ◌-◌}
 use native.Mathlib.Omega.{arith}
 use mathlib.Core.Path.{◌≡◌}
 use Rattle.rows.proofs.Tab.{get_or-of-tab}
-use Rattle.sfx_marks.proofs.Paints.{length-given, given_one, painted_none, painted_more}
+use Rattle.sfx_marks.proofs.Paints.{length-given, given_one, painted_none, painted_more, painted-all}
 use Rattle.sfx_marks.proofs.paint_eight.Goals as goal
 
 pub loop-j-init : goal.loop-j-init
 loop-j-init c =
-    let start = c in
-    let none : start.args.i + 0 ≡ start.args.i = omega arith in
-    rw none (painted_none _ _ _ _ start.requires.0 (omega arith))
+    let none : c.args.i + 0 ≡ c.args.i = omega arith in
+    rw none (painted_none _ _ _ _ c.requires.0 (omega arith))
 
 pub loop-j-preserved : goal.loop-j-preserved
 loop-j-preserved c =
-    let test = c in
-    let painted = test.loop-j.invariant in
-    let j = test.loop-j.j in
-    let words = test in
-    let start = words in
-    let next : start.args.i + (j + 1) ≡ start.args.i + j + 1 = omega arith in
-    let word = get_or-of-tab _ 8 j 0 words.eight_of-words.ensures test.loop-j-test.true in
+    let painted = c.loop-j.invariant in
+    let j = c.loop-j.j in
+    let next : c.args.i + (j + 1) ≡ c.args.i + j + 1 = omega arith in
+    let word = get_or-of-tab _ 8 j 0 c.eight_of-words.ensures c.loop-j-test.true in
     rw next
     (painted_more _ _ _ _ _ 1 painted (omega arith)
-    (given_one _ _ _ _ (length-given _ _ _ painted.given) (omega (arith, start.requires.1)) word c.choose.ensures))
+    (given_one _ _ _ _ (length-given _ _ _ painted.given) (omega (arith, c.requires.1)) word c.choose.ensures))
+
+pub returns : goal.returns
+returns c = painted-all _ _ _ _ _ c.loop-j.invariant (omega arith)

@@ -5,16 +5,10 @@ use Rattle.sfx_regions.proofs.claimed_columns.Goals as goal
 
 pub returns-then-on-contains_y : goal.returns-then-on-contains_y
 returns-then-on-contains_y c =
-    let rows = c in
-    let right = rows in
-    let left = right in
-    claimed_some left.args.on _ _
-    left.left-left.ensures right.right-right.ensures rows.contains_y.ensures c.if-on-contains_y.true
+    claimed_some c.args.on _ _
+    c.left-left.ensures c.right-right.ensures c.contains_y.ensures c.if-on-contains_y.true
 
 pub returns-else-on-contains_y : goal.returns-else-on-contains_y
 returns-else-on-contains_y c =
-    let rows = c in
-    let right = rows in
-    let left = right in
-    claimed_none left.args.on _ _
-    left.left-left.ensures right.right-right.ensures rows.contains_y.ensures c.if-on-contains_y.false
+    claimed_none c.args.on _ _
+    c.left-left.ensures c.right-right.ensures c.contains_y.ensures c.if-on-contains_y.false

@@ -7,6 +7,5 @@ use Rattle.sfx_regions.proofs.win0_columns.Goals as goal
 pub returns : goal.returns
 unfolding in_window0
 returns c =
-    let win0 = c in
-    let edges = win0.read_win0-win0.ensures in
-    columns_of_window _ win0.read_dispcnt-dispcnt.ensures.window0_is edges edges c.claimed_columns.ensures
+    let edges = c.read_win0-win0.ensures in
+    columns_of_window _ c.read_dispcnt-dispcnt.ensures.window0_is edges edges c.claimed_columns.ensures

@@ -6,42 +6,27 @@ use Rattle.sfx_regions.proofs.windowed_row.Goals as goal
 
 pub returns-then-count_marks-eq-DISPLAY_WIDTH : goal.returns-then-count_marks-eq-DISPLAY_WIDTH
 returns-then-count_marks-eq-DISPLAY_WIDTH c =
-    let count = c in
-    walked_first _ _ _ _ _ count.marks_of-first.ensures (sym count.count_marks.ensures ∙ c.if-count_marks-eq-DISPLAY_WIDTH.true)
+    walked_first _ _ _ _ _ c.marks_of-first.ensures (sym c.count_marks.ensures ∙ c.if-count_marks-eq-DISPLAY_WIDTH.true)
 
 pub returns-then-count_marks-eq-DISPLAY_WIDTH-2 : goal.returns-then-count_marks-eq-DISPLAY_WIDTH-2
 returns-then-count_marks-eq-DISPLAY_WIDTH-2 c =
-    let count = c in
-    let occupied = count in
-    let row = occupied in
-    let second = row in
-    let held = second in
-    let first = held in
     walked_second _ _ _ _ _
-    first.marks_of-first.ensures
-    held.marks_of.ensures
-    second.free_marks-second.ensures
-    row.paint.ensures
-    occupied.joined-occupied.ensures
-    (sym count.count_marks-2.ensures ∙ c.if-count_marks-eq-DISPLAY_WIDTH-2.true)
+    c.marks_of-first.ensures
+    c.marks_of.ensures
+    c.free_marks-second.ensures
+    c.paint.ensures
+    c.joined-occupied.ensures
+    (sym c.count_marks-2.ensures ∙ c.if-count_marks-eq-DISPLAY_WIDTH-2.true)
 
 pub returns : goal.returns
 returns c =
-    let left = c in
-    let line = left in
-    let rest = line in
-    let occupied = rest in
-    let row = occupied in
-    let second = row in
-    let held = second in
-    let first = held in
     walked_all _ _ _ _ _
-    first.marks_of-first.ensures
-    held.marks_of.ensures
-    second.free_marks-second.ensures
-    row.paint.ensures
-    occupied.joined-occupied.ensures
-    line.marks_of-2.ensures
-    left.free_marks.ensures
-    rest.unclaimed_row-rest.ensures
+    c.marks_of-first.ensures
+    c.marks_of.ensures
+    c.free_marks-second.ensures
+    c.paint.ensures
+    c.joined-occupied.ensures
+    c.marks_of-2.ensures
+    c.free_marks.ensures
+    c.unclaimed_row-rest.ensures
     c.paint-2.ensures

@@ -5,15 +5,13 @@ use Rattle.sfx_sorting.proofs.sort_keys.Goals as goal
 
 pub returns : goal.returns
 returns c =
-    let middle = c in
-    let high = middle in
     sorted_keys_are _ _ _ _
-    high.lower-low_first.ensures
-    high.higher-high_first.ensures
-    high.lower-low_second.ensures
-    high.higher-high_second.ensures
-    middle.higher-low_middle.ensures
-    middle.lower-high_middle.ensures
+    c.lower-low_first.ensures
+    c.higher-high_first.ensures
+    c.lower-low_second.ensures
+    c.higher-high_second.ensures
+    c.higher-low_middle.ensures
+    c.lower-high_middle.ensures
     c.lower.ensures
     c.lower-2.ensures
     c.higher.ensures

@@ -10,9 +10,7 @@ use Rattle.tiles.proofs.flip_row.Goals as goal
 pub returns-then-flipped : goal.returns-then-flipped
 unfolding tab flip
 returns-then-flipped c =
-    let fifth = c in
-    let second = fifth in
-    rw second.if-flipped.true
+    rw c.if-flipped.true
 
 pub returns-else-flipped : goal.returns-else-flipped
 unfolding flip

@@ -5,10 +5,8 @@ use Rattle.tiles.proofs.is_empty_row.Goals as goal
 
 pub returns-in-BPP4 : goal.returns-in-BPP4
 returns-in-BPP4 c =
-    let told = c in
-    empty_row_one-word _ _ _ told.shared_slice_known-1.given told.in-BPP4.is c.read_32.ensures
+    empty_row_one-word _ _ _ c.shared_slice_known-1.given c.in-BPP4.is c.read_32.ensures
 
 pub returns-in-BPP8 : goal.returns-in-BPP8
 returns-in-BPP8 c =
-    let read = c in
-    empty_row_two_words _ _ _ read.in-BPP8.is read.read_32-in-BPP8.ensures c.read_32-in-BPP8-2.ensures
+    empty_row_two_words _ _ _ c.in-BPP8.is c.read_32-in-BPP8.ensures c.read_32-in-BPP8-2.ensures

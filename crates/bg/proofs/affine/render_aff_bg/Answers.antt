@@ -12,14 +12,8 @@ loop-screen_x-init c a lifted = tabbed_none (length-replicate 240 (rgb transpare
 
 pub loop-screen_x-preserved : goal.loop-screen_x-preserved
 loop-screen_x-preserved c =
-    let y = c in
-    let x = y in
-    let loop = x in
-    let tiles = loop in
-    let screen = tiles in
-    let side = screen in
     λ a lifted.
-    colored_more (loop.loop-screen_x.invariant a lifted) x.loop-screen_x-test.true
-    (affine_bg_color_is _ _ _ x.transform_bg_point-x.result y.transform_bg_point-y.result lifted
-    x.transform_bg_point-x.ensures y.transform_bg_point-y.ensures side.from-bgcnt.ensures
-    side.texture_size-side.ensures.0 screen.screen_block-screen_block.ensures tiles.char_block-char_block.ensures c.aff_bg_color.ensures)
+    colored_more (c.loop-screen_x.invariant a lifted) c.loop-screen_x-test.true
+    (affine_bg_color_is _ _ _ c.transform_bg_point-x.result c.transform_bg_point-y.result lifted
+    c.transform_bg_point-x.ensures c.transform_bg_point-y.ensures c.from-bgcnt.ensures
+    c.texture_size-side.ensures.0 c.screen_block-screen_block.ensures c.char_block-char_block.ensures c.aff_bg_color.ensures)

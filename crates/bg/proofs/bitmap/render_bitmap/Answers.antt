@@ -4,7 +4,9 @@ use lib.ListN.{length-replicate}
 use Rattle.rgb15.specs.Colour.{rgb, transparent}
 use Rattle.rows.proofs.Tabbed.{tabbed_none}
 use Rattle.bg_regular.proofs.Lines.{colored_more}
-use Rattle.bg.proofs.Pixels.{bitmap_color_is}
+use Rattle.bg.proofs.Pixels.{bitmap_color_is, bitmap_view_port_sides}
+use Prim.Native.Nat.{◌-◌}
+use borrow.Author.Rules.{rules}
 use Rattle.bg.proofs.bitmap.render_bitmap.Goals as goal
 
 pub loop-screen_x-init : goal.loop-screen_x-init
@@ -12,13 +14,13 @@ loop-screen_x-init c a lifted = tabbed_none (length-replicate 240 (rgb transpare
 
 pub loop-screen_x-preserved : goal.loop-screen_x-preserved
 loop-screen_x-preserved c =
-    let y = c in
-    let x = y in
-    let loop = x in
-    let page = loop in
-    let viewport = page in
     λ a lifted.
-    colored_more (loop.loop-screen_x.invariant a lifted) x.loop-screen_x-test.true
-    (bitmap_color_is _ _ _ x.transform_bg_point-x.result y.transform_bg_point-y.result lifted
-    x.transform_bg_point-x.ensures y.transform_bg_point-y.ensures viewport.from-bgcnt.ensures
-    _ _ viewport.bitmap_viewport-viewport.ensures page.page_ofs-page.ensures.0 c.bitmap_color.ensures)
+    colored_more (c.loop-screen_x.invariant a lifted) c.loop-screen_x-test.true
+    (bitmap_color_is _ _ _ c.transform_bg_point-x.result c.transform_bg_point-y.result lifted
+    c.transform_bg_point-x.ensures c.transform_bg_point-y.ensures c.from-bgcnt.ensures
+    _ _ c.bitmap_viewport-viewport.ensures c.page_ofs-page.ensures.0 c.bitmap_color.ensures)
+
+pub bitmap_color-requires : goal.bitmap_color-requires
+bitmap_color-requires c =
+    let sides = bitmap_view_port_sides c.bitmap_viewport-viewport.ensures in
+    search rules

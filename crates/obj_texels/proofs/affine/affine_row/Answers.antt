@@ -1,6 +1,5 @@
 -- obj_texels::affine::affine_row meets its contract: a turn sets its column's colour, and the others stay transparent.
 -- Assumes nothing.
-use Prim.Native.Nat.{◌-◌}
 use native.Mathlib.Omega.{arith}
 use mathlib.Core.Path.{ap, ◌∙◌}
 use lib.ListN.{length-replicate}

@@ -1,11 +1,10 @@
 -- obj_texels::normal::texel_row meets its contract: a turn sets the eight columns of one tile, and the others stay transparent.
 -- Assumes nothing.
-use Prim.Native.Nat.{◌-◌, ◌≤◌}
 use native.Mathlib.Omega.{arith}
 use mathlib.Core.Path.{sym, ap, ◌∙◌}
-use lib.ListN.{get_or-replicate}
+use lib.ListN.{get_or-replicate, length-replicate}
 use Rattle.rgb15.specs.Colour.{rgb, transparent}
-use Rattle.rows.proofs.Tiles.{tiles_set_more, tiles_set-all}
+use Rattle.rows.proofs.Tiles.{tiles_set_more, tiles_set-all, tiles_set_none}
 use Rattle.obj_texels.proofs.Texels.{row_texel-inside, row_texel_outside}
 use Rattle.obj_texels.proofs.normal.texel_row.Goals as goal
 
@@ -33,3 +32,6 @@ returns c =
     (row_texel_outside at.reading at.mapping at.vram.now at.palette.now at.attrs at.y x
     (omega (arith, pre.whole, c.loop-t-test.false, x≥)))
     ∙ sym (get_or-replicate 128 x (rgb transparent) (rgb 0) x<))
+
+pub loop-t-init : goal.loop-t-init
+loop-t-init c = (omega arith, tiles_set_none (length-replicate 128 (rgb transparent)))

@@ -7,13 +7,9 @@ use Rattle.bg_points.proofs.references.References.in_ranges.Goals as goal
 
 pub returns : goal.returns
 returns c =
-    let third = c in
-    let second = third in
-    let first = second in
-    let told = first in
-    let fits = told.struct_told-1.given in
-    ranges_are told.args.self
-    (first.in_range.ensures ∙ ap in_range (field_kept fits.0.1))
-    (second.in_range-2.ensures ∙ ap in_range (field_kept fits.1.0.1))
-    (third.in_range-3.ensures ∙ ap in_range (field_kept fits.1.1.0.1))
+    let fits = c.struct_told-1.given in
+    ranges_are c.args.self
+    (c.in_range.ensures ∙ ap in_range (field_kept fits.0.1))
+    (c.in_range-2.ensures ∙ ap in_range (field_kept fits.1.0.1))
+    (c.in_range-3.ensures ∙ ap in_range (field_kept fits.1.1.0.1))
     (c.in_range-4.ensures ∙ ap in_range (field_kept fits.1.1.1.0.1))

@@ -11,10 +11,9 @@ use Rattle.obj_sprites.proofs.attrs.ObjAttrs.from.Goals as goal
 pub returns : goal.returns
 unfolding obj_attrs
 returns c =
-    let size = c in
-    let at = size.args in
-    let width_is : size.from-size.result.0 ≡ obj_width (bits 15 14 at.attr1) (bits 15 14 at.attr0)
-    = size.from-size.ensures.width_is in
+    let at = c.args in
+    let width_is : c.from-size.result.0 ≡ obj_width (bits 15 14 at.attr1) (bits 15 14 at.attr0)
+    = c.from-size.ensures.width_is in
     let y_is : at.attr0 % 0x100 ≡ bits 7 0 at.attr0 = omega arith in
     let x_is : at.attr1 % 0x200 ≡ bits 8 0 at.attr1 = omega arith in
     let tile-is : at.attr2 % 0x400 ≡ bits 9 0 at.attr2 = omega arith in

@@ -13,10 +13,8 @@ returns-in-BPP4 c = rw (c.in-TwoDimension.is, c.in-BPP4.is)
 
 pub returns-in-R : goal.returns-in-R
 unfolding ignores_lowest_bit
-returns-in-R c = let format = c in
-    rw (format.in-TwoDimension.is, format.in-BPP8.is, c.in-R.is)
+returns-in-R c = rw (c.in-TwoDimension.is, c.in-BPP8.is, c.in-R.is)
 
 pub returns-in-H : goal.returns-in-H
 unfolding ignores_lowest_bit
-returns-in-H c = let format = c in
-    rw (format.in-TwoDimension.is, format.in-BPP8.is, c.in-H.is)
+returns-in-H c = rw (c.in-TwoDimension.is, c.in-BPP8.is, c.in-H.is)

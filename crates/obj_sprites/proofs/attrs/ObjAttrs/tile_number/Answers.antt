@@ -7,8 +7,7 @@ use Rattle.obj_sprites.proofs.attrs.ObjAttrs.tile_number.Goals as goal
 
 pub returns-then-ignores_lowest_bit : goal.returns-then-ignores_lowest_bit
 unfolding tile_number
-returns-then-ignores_lowest_bit c = let tested = c in
-    rw (sym tested.ignores_lowest_bit.ensures ∙ tested.if-ignores_lowest_bit.true) (search rules)
+returns-then-ignores_lowest_bit c = rw (sym c.ignores_lowest_bit.ensures ∙ c.if-ignores_lowest_bit.true) (search rules)
 
 pub returns-else-ignores_lowest_bit : goal.returns-else-ignores_lowest_bit
 unfolding tile_number
