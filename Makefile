@@ -35,7 +35,7 @@ proofs: setup
 	@tools/ci
 
 # Reads what `rt ci` said. A few edits it tries once more, over the library's kept proofs.
-edits: library
+edits: proofs library
 	@tools/edits
 
 setup:

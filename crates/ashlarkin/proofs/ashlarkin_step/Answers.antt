@@ -9,5 +9,5 @@ pub returns : goal.returns
 returns c =
     let fits = c.ranges in
     c.step.ensures
-    ∙ ap (λ s. step s c.args.references_1.now)
+    ∙ ap (λ s. step s c.args.references.now)
     (steps-read _ fits.pb2.sfits fits.pd2.sfits fits.pb3.sfits fits.pd3.sfits)
