@@ -1,27 +1,17 @@
 -- Laws of reads. No contract cites this file. Assumes nothing.
-use Prim.Native.Nat.{ℕ, zero, suc, ◌≤◌, ◌<◌}
+use Prim.Native.Nat.{ℕ, zero, suc, ◌<◌}
 use native.Mathlib.Omega.{arith}
 use mathlib.Core.Path.{◌≡◌, refl, sym, ◌∙◌}
 use mathlib.Core.List.{List}
 use lib.Dec.{eqb, eqb-suc-zero}
-use mir.Syntax.{w8}
-use mir.Val.{Fits}
 use borrow.Author.Tests.{ne_eqb}
 use Rattle.rgb15.specs.Colour.{transparent, is_transparent}
 use Rattle.memory.specs.Memory.{byte}
 use Rattle.memory.specs.Palette.{palette_color}
-use Rattle.memory.specs.Tiles.{tile_size}
-use Rattle.memory.specs.declared.PixelFormat.{PixelFormat}
-use Rattle.memory.specs.declared.PixelFormat.TheVariants.{BPP4, BPP8}
 
--- Every element is a byte, as is known of a lent slice: `c.shared-slice-known.given`.
+-- Every element is a byte, as is known of a lent array: `c.fits-vram`.
 abbrev pub Bytes : List ℕ → Type 0
-Bytes bytes = (at : ℕ) → Fits w8 (byte bytes at)
-
--- A tile is at most 64 bytes.
-pub tile_size_bound : (format : PixelFormat) → tile_size format ≤ 64
-tile_size_bound BPP4 = omega arith
-tile_size_bound BPP8 = omega arith
+Bytes bytes = (at : ℕ) → byte bytes at < 256
 
 module _ (palette : List ℕ) (offset bank : ℕ) where
   -- Index 0 is transparent.

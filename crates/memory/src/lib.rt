@@ -3,12 +3,13 @@
 #![tactic(auto)]
 
 ghost use Rattle.std.specs.Prelude.{◌≡◌, ◌+◌, ◌*◌, ◌≤◌, ◌<◌, length};
-ghost use Rattle.memory.specs.Sizes.{video_ram_size, palette_ram_size};
+ghost use Rattle.memory.specs.Sizes.{video_ram_size};
 ghost use Rattle.memory.specs.Memory.{byte, half};
 ghost use Rattle.memory.specs.Palette.{palette_color, backdrop};
 ghost use Rattle.memory.specs.Tiles.{tile_size, colours, palette_bank, tile_pixel};
 
 use rgb15::Rgb15;
+use std::marker::Model;
 
 // What is lent, in bytes.
 pub const VIDEO_RAM_SIZE: usize = 0x20000;
@@ -28,18 +29,36 @@ pub const DISPLAY_HEIGHT: usize = 160;
 // Bytes of a tile of 16 colours.
 pub const TILE_SIZE: usize = 0x20;
 
-// Two bytes as a halfword, the low one first.
-fn join(low: u8, high: u8) -> u16
-    ensures { result ≡ low + 256 * high }
-{
-    low as u16 + 256 * (high as u16)
+// What is lent, each by its length.
+pub type VideoRam = [u8; VIDEO_RAM_SIZE];
+
+pub type PaletteRam = [u8; PALETTE_RAM_SIZE];
+
+pub type Oam = [u8; OAM_SIZE];
+
+pub type Registers = [u8; REGISTERS_SIZE];
+
+pub type Output = [u8; OUTPUT_SIZE];
+
+// The memory that a draw reads. A contract sees its bytes, as the record of the four lists.
+#[derive(Drop)]
+pub struct Memory<'a> {
+    pub vram: &'a VideoRam,
+    pub palette: &'a PaletteRam,
+    pub oam: &'a Oam,
+    pub registers: &'a Registers,
 }
 
-// A byte as an index.
-fn wide(byte: u8) -> usize
-    ensures { (result ≡ byte) × (result < 256) }
-{
-    byte as usize
+impl<'a> Model for Memory<'a> {
+    ghost use Rattle.memory.specs.Memory.{Memory as Bytes, MemoryLengths};
+
+    ghost Value = { Bytes };
+
+    ghost use Rattle.memory.specs.Lent.{memory_bytes};
+
+    ghost view = { memory_bytes };
+
+    ghost invariant = { λ m. MemoryLengths (memory_bytes m) };
 }
 
 // The byte at `at`, as an index.
@@ -47,15 +66,16 @@ pub fn read_8(bytes: &[u8], at: usize) -> usize
     requires { at < length bytes.now }
     ensures { (result ≡ byte bytes.now at) × (result < 256) }
 {
-    wide(bytes[at])
+    usize::from(bytes[at])
 }
 
 // The little-endian halfword at `at`.
+#[tactic(auto, unfolding(crate::specs::Memory::half))]
 pub fn read_16(bytes: &[u8], at: usize) -> u16
     requires { at + 1 < length bytes.now }
     ensures { result ≡ half bytes.now at }
 {
-    join(bytes[at], bytes[at + 1])
+    u16::from_le_bytes([bytes[at], bytes[at + 1]])
 }
 
 // How many colours a pixel can have: 4 bits of a byte, or 8.
@@ -89,8 +109,15 @@ impl PixelFormat {
 }
 
 // The palette index at column x and row y of the tile at `addr`.
-pub fn read_pixel_index(vram: &[u8], addr: usize, x: usize, y: usize, format: PixelFormat) -> usize
-    requires { (length vram.now ≡ video_ram_size) × (addr + 63 < video_ram_size) × (x < 8) × (y < 8) }
+#[tactic(auto, unfolding(crate::specs::Tiles::tile_pixel))]
+pub fn read_pixel_index(
+    vram: &VideoRam,
+    addr: usize,
+    x: usize,
+    y: usize,
+    format: PixelFormat,
+) -> usize
+    requires { (addr + 63 < video_ram_size) × (x < 8) × (y < 8) }
     ensures { (result ≡ tile_pixel vram.now addr x y format) × (result < colours format) }
 {
     match format {
@@ -104,8 +131,14 @@ pub fn read_pixel_index(vram: &[u8], addr: usize, x: usize, y: usize, format: Pi
 
 // The colour of an index in a bank, from the background's half of the palette or, at offset 0x200, the sprites'.
 // The halfword is read before the test of the index: a branch before the load doubles the time.
-pub fn get_palette_color(palette: &[u8], index: usize, palette_bank: usize, offset: usize) -> Rgb15
-    requires { (length palette.now ≡ palette_ram_size) × (index + 16 * palette_bank < 256) × (offset ≤ 512) }
+#[tactic(auto, unfolding(crate::specs::Palette::palette_color))]
+pub fn get_palette_color(
+    palette: &PaletteRam,
+    index: usize,
+    palette_bank: usize,
+    offset: usize,
+) -> Rgb15
+    requires { (index + 16 * palette_bank < 256) × (offset ≤ 512) }
     ensures { result.0 ≡ palette_color palette.now offset index palette_bank }
 {
     let value = read_16(palette, offset + 2 * index + 0x20 * palette_bank);
@@ -117,8 +150,7 @@ pub fn get_palette_color(palette: &[u8], index: usize, palette_bank: usize, offs
 }
 
 // The colour behind all layers.
-pub fn read_backdrop(palette: &[u8]) -> Rgb15
-    requires { length palette.now ≡ palette_ram_size }
+pub fn read_backdrop(palette: &PaletteRam) -> Rgb15
     ensures { result.0 ≡ backdrop palette.now }
 {
     Rgb15(read_16(palette, 0))

@@ -1,28 +1,23 @@
 -- Laws of entries. No contract cites this file. Assumes nothing.
 use Prim.Native.Nat.{ℕ, ◌+◌, ◌*◌, ◌/◌, ◌%◌, ◌<◌}
 use native.Mathlib.Omega.{arith}
-use mathlib.Core.Path.{◌≡◌, refl, ap, ap₂, ◌∙◌}
+use mathlib.Core.Path.{◌≡◌, ap, ap₂, ◌∙◌}
 use mathlib.Core.Bool.{Bool, true, false, cond}
 use mathlib.Core.List.{List, [], ◌∷◌}
-use lib.Dec.{eqb}
 use lib.ListN.{get_or}
-use mir.Syntax.{w8}
-use mir.Val.{Fits}
 use Rattle.rgb15.specs.Colour.{rgb}
-use Rattle.rows.specs.Below.{tally}
 use Rattle.rows.specs.Bytes.{bytes_from, put_from}
 use Rattle.rows.specs.Cells.{cell_at, put_cell, Exact}
 use Rattle.rows.specs.Words.{word_cells}
-use Rattle.rows.proofs.Below.{all_below-tally}
 use Rattle.rows.proofs.Bytes.{bytes_at, bytes_from_at}
 use Rattle.rows.proofs.Words.{low-join, high-join}
-use Rattle.obj_entries.specs.Entry.{entry_cells, well_shaped, shaped_row}
+use Rattle.obj_entries.specs.Entry.{entry_cells}
 use Rattle.obj_entries.specs.Code.{entry_of_word}
 use Rattle.obj_entries.specs.declared.Entry.{Entry}
 
 -- Every number of a list is a byte.
 abbrev pub AllBytes : List ℕ → Type 0
-AllBytes l = (i : ℕ) → Fits w8 (get_or l i 0)
+AllBytes l = (i : ℕ) → get_or l i 0 < 256
 
 -- A row of bytes is exact.
 pub exact-entry_cells : (l : List ℕ) → AllBytes l → (k : ℕ) → Exact entry_cells l k
@@ -30,7 +25,7 @@ unfolding entry_cells cell_at bytes_from
 exact-entry_cells l bytes k = let fits = bytes (4 * k) in simp (low-join, high-join)
 
 -- The colour, the priority and the marks in a word.
-pub entry_of_word_parts : (color priority marks : ℕ) {w : ℕ} → color < 0x10000 → Fits w8 priority
+pub entry_of_word_parts : (color priority marks : ℕ) {w : ℕ} → color < 0x10000 → priority < 256
     → w ≡ color + 0x10000 * priority + 0x1000000 * marks
     → entry_of_word w ≡ record { color = rgb color; priority = priority; marks = marks }
 entry_of_word_parts color priority marks {w} color< fits word-is =
@@ -68,6 +63,11 @@ unfolding put_cell entry_cells word_cells
 put_cell-word l k w =
     ap₂ (λ a b. put_from l (4 * k) (a ∷ b ∷ w / 0x10000 % 0x100 ∷ w / 0x1000000 ∷ [])) (low_byte w) (high_byte w)
 
+-- An entry is put as its word.
+pub put_cell_as_word : (l : List ℕ) (k w : ℕ) {e : Entry} {m : List ℕ}
+    → entry_of_word w ≡ e → m ≡ put_cell word_cells l k w → m ≡ put_cell entry_cells l k e
+put_cell_as_word l k w word_is m-is = m-is ∙ put_cell-word l k w ∙ ap (put_cell entry_cells l k) word_is
+
 -- One of two words is put, the one that was read or that of an entry.
 pub put_cell_chosen : (l : List ℕ) → AllBytes l → (k : ℕ) (kept : Bool)
     (w : ℕ) {v u : ℕ} {m : List ℕ} {e : Entry}
@@ -82,15 +82,3 @@ put_cell_chosen l bytes k kept w {v} {e = e} v-is w_is u-is m-is =
     go : (kept : Bool) → entry_of_word (cond kept v w) ≡ cond kept (cell_at entry_cells l k) e
     go true = entry-of-word l bytes k v-is
     go false = w_is
-
--- The fault of entry k of a row: 0 if it is well shaped, else 1.
-abbrev pub fault_at : List ℕ → ℕ → ℕ
-fault_at entries k = cond (well_shaped (cell_at entry_cells entries k)) 0 1
-
-eqb-fault : (b : Bool) → eqb (cond b 0 1) 0 ≡ b
-eqb-fault true = refl
-eqb-fault false = refl
-
--- A row is well shaped if its faults sum to 0.
-pub shaped_row_faults : (entries : List ℕ) → eqb (tally (fault_at entries) 240) 0 ≡ shaped_row entries
-shaped_row_faults entries = all_below-tally _ (fault_at entries) 240 (λ k lt. eqb-fault _)

@@ -87,8 +87,8 @@ module _ (w : ℕ) where
       (or-true is_blank_word)
 
   -- A word's tests are those of its entry.
-  pub well_shaped-word : (is_blank_word || is_shown_word) ≡ well_shaped (entry_of_word w)
-  well_shaped-word =
+  pub well_shaped_word : (is_blank_word || is_shown_word) ≡ well_shaped (entry_of_word w)
+  well_shaped_word =
       both_ways (is_blank_word || is_shown_word) (well_shaped (entry_of_word w))
       (λ t. well_shaped_shape (entry_of_word w) (⊎_elim shape_blank_word shape_shown_word (or_split is_blank_word is_shown_word t)))
       (λ t. word_shape (shape-well_shaped (entry_of_word w) t))

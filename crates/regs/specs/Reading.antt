@@ -1,6 +1,9 @@
 -- The reading, and what it makes of weights (01, "What one draw takes and gives", "Two readings"; GBATEK,
 -- "LCD I/O Color Special Effects"). Assumes nothing.
-use Rattle.std.specs.Prelude.{ℕ, zero, suc, min}
+use Rattle.std.specs.Prelude.{ℕ, zero, suc, cond, leb, min}
+use Rattle.std.specs.declared.result.Result.{Result}
+use Rattle.std.specs.declared.result.Result.TheVariants.{Ok, Err}
+use Rattle.refusals.specs.declared.Refusal.{Refusal}
 use Rattle.regs.specs.declared.reading.Reading.{Reading}
 use Rattle.regs.specs.declared.reading.Reading.TheVariants.{R, H}
 
@@ -13,3 +16,7 @@ reading_of (suc _) = H
 unfoldable pub counted : Reading → ℕ → ℕ
 counted R weight = weight
 counted H weight = min 16 weight
+
+-- The reading of a number that one has, and else the refusal (01, "Numbers a draw may return").
+unfoldable pub try_reading : ℕ → Result Reading Refusal
+try_reading number = cond (leb number 1) (Ok (reading_of number)) (Err Refusal.BadReading)

@@ -1,12 +1,11 @@
 // Registers read from the lent bytes, at their I/O offsets (iodev.rs).
-ghost use Rattle.std.specs.Prelude.{◌≡◌, ◌≤◌, ◌<◌, length};
-ghost use Rattle.memory.specs.Sizes.{registers_size};
+ghost use Rattle.std.specs.Prelude.{◌≡◌, ◌≤◌, ◌<◌};
 ghost use Rattle.regs.specs.Registers.{dispcnt, bgcnt, hofs, vofs, pa, pc};
 ghost use Rattle.regs.specs.Display.{DisplayControlOf};
 ghost use Rattle.regs.specs.Background.{BgControlOf};
 
 use crate::{BgControl, DisplayControl};
-use memory::read_16;
+use memory::{Registers, read_16};
 
 // The I/O offsets of the registers that a line is drawn from.
 pub const DISPCNT: usize = 0x00;
@@ -39,45 +38,44 @@ pub const BLDALPHA: usize = 0x52;
 
 pub const BLDY: usize = 0x54;
 
-pub fn read_dispcnt(registers: &[u8]) -> DisplayControl
-    requires { length registers.now ≡ registers_size }
+pub fn read_dispcnt(registers: &Registers) -> DisplayControl
     ensures { DisplayControlOf (dispcnt registers.now) result }
 {
     DisplayControl::from(read_16(registers, DISPCNT))
 }
 
-pub fn read_bgcnt(registers: &[u8], bg: usize) -> BgControl
-    requires { (length registers.now ≡ registers_size) × (bg < 4) }
+pub fn read_bgcnt(registers: &Registers, bg: usize) -> BgControl
+    requires { bg < 4 }
     ensures { BgControlOf (bgcnt registers.now bg) result }
 {
     BgControl::from(read_16(registers, BG0CNT + 2 * bg))
 }
 
 // The offsets of a regular background, of which nine bits count.
-pub fn read_hofs(registers: &[u8], bg: usize) -> usize
-    requires { (length registers.now ≡ registers_size) × (bg < 4) }
+pub fn read_hofs(registers: &Registers, bg: usize) -> usize
+    requires { bg < 4 }
     ensures { result ≡ hofs registers.now bg }
 {
     read_16(registers, BG0HOFS + 4 * bg) as usize % 512
 }
 
-pub fn read_vofs(registers: &[u8], bg: usize) -> usize
-    requires { (length registers.now ≡ registers_size) × (bg < 4) }
+pub fn read_vofs(registers: &Registers, bg: usize) -> usize
+    requires { bg < 4 }
     ensures { result ≡ vofs registers.now bg }
 {
     read_16(registers, BG0VOFS + 4 * bg) as usize % 512
 }
 
 // What a column adds to x and y of background 2 or 3 as an affine one, each as its word.
-pub fn read_pa(registers: &[u8], bg: usize) -> u16
-    requires { (length registers.now ≡ registers_size) × (2 ≤ bg) × (bg < 4) }
+pub fn read_pa(registers: &Registers, bg: usize) -> u16
+    requires { (2 ≤ bg) × (bg < 4) }
     ensures { result ≡ pa registers.now bg }
 {
     read_16(registers, BG2PA + 0x10 * (bg - 2))
 }
 
-pub fn read_pc(registers: &[u8], bg: usize) -> u16
-    requires { (length registers.now ≡ registers_size) × (2 ≤ bg) × (bg < 4) }
+pub fn read_pc(registers: &Registers, bg: usize) -> u16
+    requires { (2 ≤ bg) × (bg < 4) }
     ensures { result ≡ pc registers.now bg }
 {
     read_16(registers, BG2PC + 0x10 * (bg - 2))

@@ -35,10 +35,10 @@ pub struct DisplayControl {
     pub enable_obj_window: bool,
 }
 
-impl DisplayControl {
-    pub fn from(value: u16) -> DisplayControl
-        ensures { DisplayControlOf value result }
-    {
+impl From<u16> for DisplayControl {
+    ghost from_gives = { DisplayControlOf };
+
+    fn from(value: u16) -> DisplayControl {
         let enable_bg = [
             value / 0x100 % 2 == 1,
             value / 0x200 % 2 == 1,
@@ -58,7 +58,9 @@ impl DisplayControl {
             enable_obj_window: value / 0x8000 % 2 == 1,
         }
     }
+}
 
+impl DisplayControl {
     // Whether any window is on.
     pub fn is_using_windows(self) -> bool
         ensures { result ≡ is_using_windows self.enable_window0 self.enable_window1 self.enable_obj_window }
@@ -96,10 +98,10 @@ pub struct BgSize {
     pub height: usize,
 }
 
-impl BgControl {
-    pub fn from(value: u16) -> BgControl
-        ensures { BgControlOf value result }
-    {
+impl From<u16> for BgControl {
+    ghost from_gives = { BgControlOf };
+
+    fn from(value: u16) -> BgControl {
         BgControl {
             priority: value % 4,
             character_base_block: value / 0x4 % 4,
@@ -110,7 +112,9 @@ impl BgControl {
             size: (value / 0x4000 % 4) as u8,
         }
     }
+}
 
+impl BgControl {
     // Where the tiles start.
     pub fn char_block(self) -> usize
         ensures { result ≡ char_block self.character_base_block }

@@ -14,6 +14,7 @@ pub enum RenderLayerKind {
 
 impl RenderLayerKind {
     // The layer of a background.
+    #[tactic(auto, unfolding(crate::specs::Layers::background_layer))]
     pub fn background(bg: usize) -> RenderLayerKind
         requires { bg < 4 }
         ensures { result ≡ background_layer bg }

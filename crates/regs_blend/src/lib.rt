@@ -2,9 +2,8 @@
 
 #![tactic(auto)]
 
-ghost use Rattle.std.specs.Prelude.{◌≡◌, ◌<◌, length};
+ghost use Rattle.std.specs.Prelude.{◌≡◌};
 ghost use Rattle.bits.specs.Bits.{bits};
-ghost use Rattle.memory.specs.Sizes.{registers_size};
 ghost use Rattle.regs.specs.Registers.{bldcnt, bldalpha, bldy};
 ghost use Rattle.regs_blend.specs.Blend.{BlendControlOf, BlendAlphaOf, blend_mode_of};
 ghost use Rattle.regs_blend.specs.Layers.{targets};
@@ -12,20 +11,22 @@ ghost use Rattle.regs_blend.specs.Layers.{targets};
 mod layer;
 
 pub use layer::RenderLayerKind;
-use memory::read_16;
+use memory::{Registers, read_16};
 use regs::iodev::{BLDALPHA, BLDCNT, BLDY};
 
 // Layers, as six bits: backgrounds 0 to 3, objects, backdrop.
 #[derive(Clone, Copy)]
 pub struct BlendFlags(pub u16);
 
-impl BlendFlags {
-    pub fn from(value: u16) -> BlendFlags
-        ensures { result.0 ≡ bits 5 0 value }
-    {
+impl From<u16> for BlendFlags {
+    ghost from_gives = { λ value flags. flags.0 ≡ bits 5 0 value };
+
+    fn from(value: u16) -> BlendFlags {
         BlendFlags(value % 0x40)
     }
+}
 
+impl BlendFlags {
     // Whether the layer is one of these.
     pub fn contains_render_layer(self, kind: RenderLayerKind) -> bool
         ensures { result ≡ targets self.0 kind }
@@ -34,7 +35,7 @@ impl BlendFlags {
     }
 }
 
-#[derive(Clone, Copy)]
+#[derive(Clone, Copy, PartialEq, Eq)]
 pub enum BlendMode {
     BldNone,
     BldAlpha,
@@ -42,12 +43,13 @@ pub enum BlendMode {
     BldBlack,
 }
 
-impl BlendMode {
-    pub fn from(value: u16) -> BlendMode
-        requires { value < 4 }
-        ensures { result ≡ blend_mode_of value }
-    {
-        match value {
+// By the two low bits.
+impl From<u16> for BlendMode {
+    ghost from_gives = { λ value mode. mode ≡ blend_mode_of (bits 1 0 value) };
+
+    #[tactic(auto, unfolding(crate::specs::Blend::blend_mode_of))]
+    fn from(value: u16) -> BlendMode {
+        match value % 4 {
             0 => BlendMode::BldNone,
             1 => BlendMode::BldAlpha,
             2 => BlendMode::BldWhite,
@@ -63,13 +65,13 @@ pub struct BlendControl {
     pub mode: BlendMode,
 }
 
-impl BlendControl {
-    pub fn from(value: u16) -> BlendControl
-        ensures { BlendControlOf value result }
-    {
+impl From<u16> for BlendControl {
+    ghost from_gives = { BlendControlOf };
+
+    fn from(value: u16) -> BlendControl {
         BlendControl {
             target1: BlendFlags::from(value),
-            mode: BlendMode::from(value / 0x40 % 4),
+            mode: BlendMode::from(value / 0x40),
             target2: BlendFlags::from(value / 0x100),
         }
     }
@@ -81,10 +83,10 @@ pub struct BlendAlpha {
     pub evb: u16,
 }
 
-impl BlendAlpha {
-    pub fn from(value: u16) -> BlendAlpha
-        ensures { BlendAlphaOf value result }
-    {
+impl From<u16> for BlendAlpha {
+    ghost from_gives = { BlendAlphaOf };
+
+    fn from(value: u16) -> BlendAlpha {
         BlendAlpha {
             eva: value % 32,
             evb: value / 0x100 % 32,
@@ -92,23 +94,20 @@ impl BlendAlpha {
     }
 }
 
-pub fn read_bldcnt(registers: &[u8]) -> BlendControl
-    requires { length registers.now ≡ registers_size }
+pub fn read_bldcnt(registers: &Registers) -> BlendControl
     ensures { BlendControlOf (bldcnt registers.now) result }
 {
     BlendControl::from(read_16(registers, BLDCNT))
 }
 
-pub fn read_bldalpha(registers: &[u8]) -> BlendAlpha
-    requires { length registers.now ≡ registers_size }
+pub fn read_bldalpha(registers: &Registers) -> BlendAlpha
     ensures { BlendAlphaOf (bldalpha registers.now) result }
 {
     BlendAlpha::from(read_16(registers, BLDALPHA))
 }
 
 // EVY, the low five bits.
-pub fn read_bldy(registers: &[u8]) -> u16
-    requires { length registers.now ≡ registers_size }
+pub fn read_bldy(registers: &Registers) -> u16
     ensures { result ≡ bldy registers.now }
 {
     read_16(registers, BLDY) % 32

@@ -2,27 +2,29 @@
 
 #![tactic(auto)]
 
-ghost use Rattle.std.specs.Prelude.{◌≡◌, ◌≤◌, ◌<◌, length};
+ghost use Rattle.std.specs.Prelude.{◌≡◌, ◌≤◌, ◌<◌};
 ghost use Rattle.bits.specs.Bits.{bits};
-ghost use Rattle.memory.specs.Sizes.{display_width, display_height, registers_size};
+ghost use Rattle.memory.specs.Sizes.{display_width, display_height};
 ghost use Rattle.regs.specs.Registers.{winout_flags, winobj_flags};
 ghost use Rattle.regs_window.specs.Windows.{permits, everything, far_edge, right_edge, bottom_edge, in_rows};
 ghost use Rattle.regs_window.specs.Windows.{WindowOf, Window0Of, Window1Of};
 
-use memory::{DISPLAY_HEIGHT, DISPLAY_WIDTH, read_16};
+use memory::{DISPLAY_HEIGHT, DISPLAY_WIDTH, Registers, read_16};
 use regs::iodev::{WIN0H, WIN0V, WIN1H, WIN1V, WININ, WINOUT};
 
 // What a region permits, as six bits: backgrounds 0 to 3, objects, effects.
 #[derive(Clone, Copy)]
 pub struct WindowFlags(pub u16);
 
-impl WindowFlags {
-    pub fn from(value: u16) -> WindowFlags
-        ensures { result.0 ≡ bits 5 0 value }
-    {
+impl From<u16> for WindowFlags {
+    ghost from_gives = { λ value flags. flags.0 ≡ bits 5 0 value };
+
+    fn from(value: u16) -> WindowFlags {
         WindowFlags(value % 0x40)
     }
+}
 
+impl WindowFlags {
     // Everything permitted.
     pub fn all() -> WindowFlags
         ensures { result.0 ≡ everything }
@@ -71,14 +73,16 @@ fn far_edge(near: usize, far: usize, screen: usize) -> usize
 
 impl Window {
     // The window of its two words, H and V, and of what it permits.
-    pub fn from(h: u16, v: u16, flags: WindowFlags) -> Window
+    pub fn new(h: u16, v: u16, flags: WindowFlags) -> Window
         ensures { WindowOf h v flags.0 result }
     {
+        let [right, left] = h.to_le_bytes();
+        let [bottom, top] = v.to_le_bytes();
         Window {
-            right: (h % 0x100) as u8,
-            left: (h / 0x100) as u8,
-            bottom: (v % 0x100) as u8,
-            top: (v / 0x100) as u8,
+            left,
+            right,
+            top,
+            bottom,
             flags,
         }
     }
@@ -86,25 +90,33 @@ impl Window {
     pub fn left(self) -> usize
         ensures { result ≡ self.left }
     {
-        self.left as usize
+        usize::from(self.left)
     }
 
     pub fn right(self) -> usize
         ensures { (result ≡ right_edge self.left self.right) × (result ≤ display_width) }
     {
-        far_edge(self.left as usize, self.right as usize, DISPLAY_WIDTH)
+        far_edge(
+            usize::from(self.left),
+            usize::from(self.right),
+            DISPLAY_WIDTH,
+        )
     }
 
     pub fn top(self) -> usize
         ensures { result ≡ self.top }
     {
-        self.top as usize
+        usize::from(self.top)
     }
 
     pub fn bottom(self) -> usize
         ensures { (result ≡ bottom_edge self.top self.bottom) × (result ≤ display_height) }
     {
-        far_edge(self.top as usize, self.bottom as usize, DISPLAY_HEIGHT)
+        far_edge(
+            usize::from(self.top),
+            usize::from(self.bottom),
+            DISPLAY_HEIGHT,
+        )
     }
 
     // Whether the window's rows hold y.
@@ -117,33 +129,29 @@ impl Window {
     }
 }
 
-pub fn read_win0(registers: &[u8]) -> Window
-    requires { length registers.now ≡ registers_size }
+pub fn read_win0(registers: &Registers) -> Window
     ensures { Window0Of registers.now result }
 {
     let flags = WindowFlags::from(read_16(registers, WININ));
-    Window::from(read_16(registers, WIN0H), read_16(registers, WIN0V), flags)
+    Window::new(read_16(registers, WIN0H), read_16(registers, WIN0V), flags)
 }
 
-pub fn read_win1(registers: &[u8]) -> Window
-    requires { length registers.now ≡ registers_size }
+pub fn read_win1(registers: &Registers) -> Window
     ensures { Window1Of registers.now result }
 {
     let flags = WindowFlags::from(read_16(registers, WININ) / 0x100);
-    Window::from(read_16(registers, WIN1H), read_16(registers, WIN1V), flags)
+    Window::new(read_16(registers, WIN1H), read_16(registers, WIN1V), flags)
 }
 
 // What is permitted outside the windows.
-pub fn read_winout_flags(registers: &[u8]) -> WindowFlags
-    requires { length registers.now ≡ registers_size }
+pub fn read_winout_flags(registers: &Registers) -> WindowFlags
     ensures { result.0 ≡ winout_flags registers.now }
 {
     WindowFlags::from(read_16(registers, WINOUT))
 }
 
 // What is permitted in the object window.
-pub fn read_winobj_flags(registers: &[u8]) -> WindowFlags
-    requires { length registers.now ≡ registers_size }
+pub fn read_winobj_flags(registers: &Registers) -> WindowFlags
     ensures { result.0 ≡ winobj_flags registers.now }
 {
     WindowFlags::from(read_16(registers, WINOUT) / 0x100)

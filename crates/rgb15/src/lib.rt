@@ -6,7 +6,7 @@ ghost use Rattle.std.specs.Prelude.{◌≡◌, ◌≤◌};
 ghost use Rattle.rgb15.specs.Colour.{red, green, blue, to_rgb24, from_rgb, is_transparent, blend_channel, blend_with};
 
 // A colour as memory holds it: red in bits 4-0, green in 9-5, blue in 14-10.
-#[derive(Clone, Copy)]
+#[derive(Clone, Copy, PartialEq, Eq)]
 pub struct Rgb15(pub u16);
 
 // The channels, 0 to 31, which the Rust's `bitfield!` makes.
@@ -41,7 +41,7 @@ impl Rgb15 {
     pub fn to_rgb24(self) -> u32
         ensures { result ≡ to_rgb24 self.0 }
     {
-        self.r() as u32 * 0x80000 + self.g() as u32 * 0x800 + self.b() as u32 * 0x8
+        u32::from(self.r()) * 0x80000 + u32::from(self.g()) * 0x800 + u32::from(self.b()) * 0x8
     }
 
     // The colour of three channels, of each the low five bits.
@@ -55,17 +55,17 @@ impl Rgb15 {
     pub fn is_transparent(self) -> bool
         ensures { result ≡ is_transparent self.0 }
     {
-        self.0 == Rgb15::TRANSPARENT.0
+        self == Rgb15::TRANSPARENT
     }
 }
 
 // One channel of a blend, at most 31.
+#[tactic(auto, unfolding(crate::specs::Colour::blend_channel))]
 fn blend_channel(a: u16, b: u16, wa: u16, wb: u16) -> u16
     requires { (a ≤ 31) × (b ≤ 31) × (wa ≤ 31) × (wb ≤ 31) }
     ensures { result ≡ blend_channel a b wa wb }
 {
-    let sum = (a * wa + b * wb) / 16;
-    if sum < 31 { sum } else { 31 }
+    ((a * wa + b * wb) / 16).min(31)
 }
 
 impl Rgb15 {

@@ -31,6 +31,14 @@ between-past left right k h = simp (le-ltb k right h) (and-false (leb left k))
 
 -- ---- a test of each number below n
 
+pub all_below_none : (test : ℕ → Bool) → all_below test 0 ≡ true
+unfolding all_below
+all_below_none test = refl
+
+pub all_below_more : (test : ℕ → Bool) (n : ℕ) → all_below test (n + 1) ≡ all_below test n && test n
+unfolding all_below
+all_below_more test n = rw (add-one n) refl
+
 pub all_below_fails : (test : ℕ → Bool) (n k : ℕ) → k < n → test k ≡ false → all_below test n ≡ false
 unfolding all_below
 all_below_fails test zero k h = absurd (not-suc-le-zero h)
@@ -63,10 +71,6 @@ all_below_at test n e k lt = go (test k) refl
 pub tally_none : (f : ℕ → ℕ) → 0 ≡ tally f 0
 unfolding tally
 tally_none f = refl
-
-pub tally_more : (f : ℕ → ℕ) (n : ℕ) {s a : ℕ} → s ≡ tally f n → a ≡ f n → s + a ≡ tally f (n + 1)
-unfolding tally
-tally_more f n p q = ap₂ ◌+◌ p q ∙ ap (tally f) (sym (add-one n))
 
 pub tally_cong : (f g : ℕ → ℕ) (n : ℕ) → ((k : ℕ) → k < n → f k ≡ g k) → tally f n ≡ tally g n
 unfolding tally

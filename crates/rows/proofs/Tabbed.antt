@@ -2,55 +2,22 @@
 -- Assumes nothing.
 use mathlib.Core.Path.{◌≡◌, refl, sym, ap, ◌∙◌}
 use mathlib.Core.Bool.{Bool, true, false}
-use mathlib.Core.List.{List, [], ◌∷◌, ◌++◌}
+use mathlib.Core.List.{List}
 use Prim.Native.Nat.{ℕ, ◌+◌, ◌≤◌, ◌<◌}
 use native.Mathlib.Nat.{not-suc-le-zero}
-use native.Mathlib.Numerals.{add-one}
 use native.Mathlib.Omega.{arith}
 use lib.Dec.{ltb}
-use lib.ListN.{length, get_or, set, take, length-set}
-use lib.Seq.{get_or-set_same, get_or-set_other, take-suc-set, take_all}
+use lib.ListN.{length, get_or, set, length-set}
+use lib.Seq.{get_or-set_same, get_or-set_other}
 use borrow.Author.Count.{below_more}
 use borrow.Author.Tests.{ltb-true, ltb-false}
 use Rattle.rows.specs.Below.{between}
 use Rattle.rows.specs.Cells.{only}
-use Rattle.rows.specs.Tab.{tab, map_tab}
+use Rattle.rows.specs.Tab.{map_tab}
 use Rattle.rows.proofs.Below.{between-inside, between_before, between-past}
 use Rattle.rows.proofs.Tab.{tab_ext}
 
 module _ {A : Type 0} where
-  -- ---- a loop that overwrites an array
-
-  -- Of n elements the first k are set, element j to f j.
-  pub record Tabbed (f : ℕ → A) (n k : ℕ) (l : List A) : Type 0 where
-    pub bound : k ≤ n
-    pub size : length l ≡ n
-    pub made : take k l ≡ tab f k
-
-  pub tabbed_none : {f : ℕ → A} {n : ℕ} {l : List A} → length l ≡ n → Tabbed f n 0 l
-  unfolding tab
-  tabbed_none h = record { bound = omega arith; size = h; made = refl }
-
-  pub tabbed_more : {f : ℕ → A} {n k : ℕ} {l : List A} {a : A} → Tabbed f n k l → k < n → a ≡ f k
-      → Tabbed f n (k + 1) (set l k a)
-  unfolding tab
-  tabbed_more {f} {n} {k} {l} {a} p h e =
-      record {
-        bound = omega arith;
-        size = length-set l k a ∙ p.size;
-        made =
-            ap (λ (j : ℕ). take j (set l k a)) (add-one k)
-            ∙ take-suc-set l k a (omega (arith, p.size))
-            ∙ ap (λ (m : List A). m ++ (a ∷ [])) p.made
-            ∙ ap (λ (x : A). tab f k ++ (x ∷ [])) e
-            ∙ ap (tab f) (sym (add-one k));
-      }
-
-  pub tabbed-all : {f : ℕ → A} {n k : ℕ} {l : List A} → Tabbed f n k l → n ≤ k → l ≡ tab f n
-  tabbed-all {f} {n} {k} {l} p h =
-      let e : k ≡ n = omega (arith, p.bound) in
-      sym (take_all k l (omega (arith, p.size))) ∙ p.made ∙ ap (tab f) e
-
   -- The eight elements from i on set to a, b, .., as eight stores of code do.
   abbrev pub set_tile : List A → ℕ → A → A → A → A → A → A → A → A → List A
   set_tile l i a b c d e g h j =

@@ -6,20 +6,13 @@ ghost use Rattle.std.specs.Prelude.{◌≡◌, cond, ◌+◌, ◌*◌, ◌≤◌
 ghost use Rattle.rows.specs.Cells.{cell_at, put_cell};
 ghost use Rattle.rows.specs.Words.{word_cells};
 
-// The number in four bytes, the low one first.
-fn word_of(a: u8, b: u8, c: u8, d: u8) -> u32
-    ensures { result ≡ a + 0x100 * b + 0x10000 * c + 0x1000000 * d }
-{
-    a as u32 + 0x100 * (b as u32) + 0x10000 * (c as u32) + 0x1000000 * (d as u32)
-}
-
 // Cell k of a row of words.
 pub fn word_at(row: &[u8], k: usize) -> u32
     requires { 4 * k + 4 ≤ length row.now }
     ensures { result ≡ cell_at word_cells row.now k }
 {
     let i = 4 * k;
-    word_of(row[i], row[i + 1], row[i + 2], row[i + 3])
+    u32::from_le_bytes([row[i], row[i + 1], row[i + 2], row[i + 3]])
 }
 
 // Cell k of a row of words set to w.
@@ -28,15 +21,12 @@ pub fn put_word(row: &mut [u8], k: usize, w: u32)
     ensures { row.new ≡ put_cell word_cells row.old k w }
 {
     let i = 4 * k;
-    row[i] = (w % 0x100) as u8;
-    row[i + 1] = (w / 0x100 % 0x100) as u8;
-    row[i + 2] = (w / 0x10000 % 0x100) as u8;
-    row[i + 3] = (w / 0x1000000) as u8;
+    [row[i], row[i + 1], row[i + 2], row[i + 3]] = w.to_le_bytes();
 }
 
-// The first number where the test holds, else the second. In a loop over columns every choice is made by this function, of numbers
+// The first where the test holds, else the second. In a loop over columns every choice is made by this function, of numbers
 // that are there already: so the loop has no other branches, and runs on several columns at once.
-pub fn choose(test: bool, then: u16, other: u16) -> u16
+pub fn choose<T: Copy>(test: bool, then: T, other: T) -> T
     ensures { result ≡ cond test then other }
 {
     if test { then } else { other }

@@ -6,8 +6,6 @@ use mathlib.Core.List.{List}
 use native.Mathlib.Omega.{arith}
 use lib.Dec.{eqb, eqb-suc-zero}
 use lib.ListN.{replicate}
-use mir.Syntax.{w8}
-use mir.Val.{Fits}
 use borrow.Author.Tests.{eqb-true}
 use Rattle.bits.specs.Bits.{bits}
 use Rattle.rgb15.specs.Colour.{rgb, transparent}
@@ -32,7 +30,7 @@ eqb_both (suc n) zero (suc b) there back = eqb-suc-zero n ∙ sym (eqb-suc-zero 
 eqb_both (suc n) (suc a) b there back = eqb-suc-zero n ∙ ap (λ (t : Bool). t && eqb b 0) (sym (eqb-suc-zero a))
 
 -- A byte and its two pixels.
-eqb-byte : (b : ℕ) → Fits w8 b → eqb b 0 ≡ eqb (bits 3 0 b) 0 && eqb (bits 7 4 b) 0
+eqb-byte : (b : ℕ) → b < 256 → eqb b 0 ≡ eqb (bits 3 0 b) 0 && eqb (bits 7 4 b) 0
 eqb-byte b fits = eqb_both b (bits 3 0 b) (bits 7 4 b) (λ e. (omega arith, omega arith)) (λ e f. omega arith)
 
 -- The word at an offset, little-endian.

@@ -1,20 +1,19 @@
--- As code has it: what a tile's row is read from (01, "Backgrounds"; GBATEK, "LCD VRAM Overview, Character Data, BG Screen Data
--- Format").
+-- As code has it: a tile and the colours of its pixels (01, "Backgrounds", "Sprites"; GBATEK, "LCD VRAM Overview, Character
+-- Data, BG Screen Data Format").
 -- No exported contract reaches this file. Assumes nothing.
-use Rattle.std.specs.Prelude.{ℕ, ◌+◌, ◌*◌, ◌≤◌, ◌<◌, ◌≡◌, List, length}
-use Rattle.memory.specs.Sizes.{video_ram_size, palette_ram_size}
-use Rattle.memory.specs.Tiles.{colours}
-use Rattle.memory.specs.declared.PixelFormat.{PixelFormat}
+use Rattle.std.specs.Prelude.{ℕ, ◌+◌, ◌*◌, ◌≤◌, ◌<◌}
+use Rattle.memory.specs.Memory.{Memory}
+use Rattle.memory.specs.Palette.{palette_color}
+use Rattle.memory.specs.Sizes.{video_ram_size}
+use Rattle.memory.specs.Tiles.{colours, tile_pixel}
+use Rattle.tiles.specs.declared.Tile.{Tile}
 
--- Row y of the tile at addr lies in video memory, of either format.
-pub record TileRow (vram : List ℕ) (addr y : ℕ) : Type 0 where
-  pub vram_is : length vram ≡ video_ram_size
-  pub addr< : addr + 63 < video_ram_size
-  pub y< : y < 8
-
--- Its pixels take their colours from a bank of the backgrounds' half of the palette or, at offset 0x200, of the sprites'.
-pub record ColorRow (vram palette : List ℕ) (offset addr y : ℕ) (format : PixelFormat) (bank : ℕ) : Type 0 where
-  pub row : TileRow vram addr y
-  pub palette_is : length palette ≡ palette_ram_size
+-- A tile of video memory, whose colours are a bank of the backgrounds' half of the palette or, at offset 0x200, of the sprites'.
+pub record TileColors (offset : ℕ) (t : Tile) : Type 0 where
+  pub addr< : t.addr + 63 < video_ram_size
   pub offset≤ : offset ≤ 0x200
-  pub bank≤ : 16 * bank + colours format ≤ 256
+  pub bank≤ : 16 * t.bank + colours t.format ≤ 256
+
+-- The colour of a pixel of a tile.
+abbrev pub color_in_tile : Memory → ℕ → Tile → ℕ → ℕ → ℕ
+color_in_tile m offset t x y = palette_color m.palette offset (tile_pixel m.vram t.addr x y t.format) t.bank

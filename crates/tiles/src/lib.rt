@@ -10,34 +10,18 @@ ghost use Rattle.memory.specs.Memory.{half};
 ghost use Rattle.memory.specs.Palette.{palette_color};
 ghost use Rattle.memory.specs.Tiles.{tile_pixel};
 ghost use Rattle.tiles.specs.Flip.{flip};
-ghost use Rattle.tiles.specs.Code.{TileRow, ColorRow};
+ghost use Rattle.memory.specs.Sizes.{video_ram_size};
+ghost use Rattle.tiles.specs.Code.{TileColors, color_in_tile};
 
-use memory::{PixelFormat, get_palette_color, read_16, read_pixel_index};
+use memory::{Memory, PixelFormat, VideoRam, get_palette_color, read_16, read_pixel_index};
 use rgb15::Rgb15;
+use std::array;
 
 // Columns of a tile, and its rows.
 pub const TILE_SIDE: usize = 8;
 
-// The colour of a pixel of the tile at `tile_addr`, from a bank of the background's half of the palette or, at offset 0x200, the
-// sprites'.
-pub fn tile_color(
-    vram: &[u8],
-    palette: &[u8],
-    offset: usize,
-    tile_addr: usize,
-    x: usize,
-    y: usize,
-    format: PixelFormat,
-    bank: usize,
-) -> Rgb15
-    requires { ColorRow vram.now palette.now offset tile_addr y format bank × (x < 8) }
-    ensures { result.0 ≡ palette_color palette.now offset (tile_pixel vram.now tile_addr x y format) bank }
-{
-    let index = read_pixel_index(vram, tile_addr, x, y, format);
-    get_palette_color(palette, index, bank, offset)
-}
-
 // A place of a side, counted from the other end where the bit is set.
+#[tactic(auto, unfolding(crate::specs::Flip::flip))]
 pub fn flip(set: bool, side: usize, at: usize) -> usize
     requires { at < side }
     ensures { (result ≡ flip set side at) × (result < side) }
@@ -47,23 +31,65 @@ pub fn flip(set: bool, side: usize, at: usize) -> usize
 
 // A row, from right to left if it is flipped.
 pub fn flip_row(row: [Rgb15; TILE_SIDE], flipped: bool) -> [Rgb15; TILE_SIDE]
-    requires { length row ≡ 8 }
     ensures { result ≡ tab (λ x. get_or row (flip flipped 8 x) (rgb 0)) 8 }
 {
+    let mut shown = row;
     if flipped {
-        [
-            row[7], row[6], row[5], row[4], row[3], row[2], row[1], row[0],
-        ]
-    } else {
-        row
+        shown.reverse();
     }
+    shown
 }
 
-// Two halfwords as a word, the low one first.
-fn word_of(low: u16, high: u16) -> u32
-    ensures { result ≡ low + 0x10000 * high }
-{
-    low as u32 + 0x10000 * (high as u32)
+// A tile: where it starts, how many colours its pixels have, and the bank that these are in.
+#[derive(Clone, Copy)]
+pub struct Tile {
+    pub addr: usize,
+    pub format: PixelFormat,
+    pub bank: usize,
+}
+
+impl Tile {
+    // The colour of a pixel, from the background's half of the palette or, at OFFSET 0x200, the sprites'.
+    pub fn color<const OFFSET: usize>(self, memory: &Memory, x: usize, y: usize) -> Rgb15
+        requires { TileColors OFFSET self × (x < 8) × (y < 8) }
+        ensures { result.0 ≡ color_in_tile memory.now OFFSET self x y }
+    {
+        let index = read_pixel_index(memory.vram, self.addr, x, y, self.format);
+        get_palette_color(memory.palette, index, self.bank, OFFSET)
+    }
+
+    // The colours of row y, from right to left if it is flipped.
+    pub fn row<const OFFSET: usize>(
+        self,
+        memory: &Memory,
+        y: usize,
+        flipped: bool,
+    ) -> [Rgb15; TILE_SIDE]
+        requires { TileColors OFFSET self × (y < 8) }
+        ensures { result ≡ tab (λ x. rgb (color_in_tile memory.now OFFSET self (flip flipped 8 x) y)) 8 }
+    {
+        let row = array::from_fn(
+            |x: usize| -> Rgb15
+                requires { TileColors OFFSET self × (x < 8) × (y < 8) }
+                ensures { result.0 ≡ color_in_tile memory.entry.now OFFSET self x y }
+            { self.color::<OFFSET>(memory, x, y) },
+        );
+        flip_row(row, flipped)
+    }
+
+    // Whether every pixel of row y has index 0. Its bytes are one word, or two.
+    pub fn is_empty_row(self, vram: &VideoRam, y: usize) -> bool
+        requires { (self.addr + 63 < video_ram_size) × (y < 8) }
+        ensures { result ≡ all_below (λ x. eqb (tile_pixel vram.now self.addr x y self.format) 0) 8 }
+    {
+        match self.format {
+            PixelFormat::BPP4 => read_32(vram, self.addr + 4 * y) == 0,
+            PixelFormat::BPP8 => {
+                let at = self.addr + 8 * y;
+                (read_32(vram, at) == 0) & (read_32(vram, at + 4) == 0)
+            }
+        }
+    }
 }
 
 // The little-endian word at `at`.
@@ -71,18 +97,5 @@ fn read_32(bytes: &[u8], at: usize) -> u32
     requires { at + 3 < length bytes.now }
     ensures { result ≡ half bytes.now at + 0x10000 * half bytes.now (at + 2) }
 {
-    word_of(read_16(bytes, at), read_16(bytes, at + 2))
-}
-
-// Whether every pixel of a row of the tile at `tile_addr` has index 0. Its bytes are one word, or two.
-pub fn is_empty_row(vram: &[u8], tile_addr: usize, y: usize, format: PixelFormat) -> bool
-    requires { TileRow vram.now tile_addr y }
-    ensures { result ≡ all_below (λ x. eqb (tile_pixel vram.now tile_addr x y format) 0) 8 }
-{
-    match format {
-        PixelFormat::BPP4 => read_32(vram, tile_addr + 4 * y) == 0,
-        PixelFormat::BPP8 => {
-            (read_32(vram, tile_addr + 8 * y) == 0) & (read_32(vram, tile_addr + 8 * y + 4) == 0)
-        }
-    }
+    u32::from(read_16(bytes, at)) + 0x10000 * u32::from(read_16(bytes, at + 2))
 }

@@ -1,11 +1,7 @@
--- obj_entries::put_entry meets its contract: the four stores are the bytes that the codec puts.
+-- obj_entries::put_entry meets its contract: the word that is put is the entry's.
 -- Assumes nothing.
-use borrow.Author.Rules.{rules}
-use Rattle.rows.specs.Cells.{put_cell}
-use Rattle.rows.proofs.Bytes.{put_at, put_from_at}
-use Rattle.obj_entries.specs.Entry.{entry_cells}
+use Rattle.obj_entries.proofs.Entries.{put_cell_as_word}
 use Rattle.obj_entries.proofs.put_entry.Goals as goal
 
 pub returns : goal.returns
-unfolding put_cell put_at entry_cells
-returns c = rw put_from_at (search rules)
+returns c = put_cell_as_word _ _ _ c.from.ensures c.put_word.ensures

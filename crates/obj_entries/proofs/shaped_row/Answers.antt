@@ -1,20 +1,16 @@
--- obj_entries::shaped_row meets its contract: the sum of the faults is 0 if each entry has none.
+-- obj_entries::shaped_row meets its contract: a turn asks one entry more.
 -- Assumes nothing.
-use mathlib.Core.Path.{ap, ◌∙◌}
-use lib.Dec.{eqb}
-use borrow.Author.Rules.{rules}
-use Rattle.rows.proofs.Sums.{summed_none, summed_more, summed-all}
-use Rattle.obj_entries.proofs.Entries.{entry-of-word, shaped_row_faults}
+use mathlib.Core.Path.{sym, ap, ap₂, ◌∙◌}
+use mathlib.Core.Bool.{◌&&◌}
+use Rattle.obj_entries.specs.Entry.{well_shaped}
+use Rattle.rows.proofs.Below.{all_below_none, all_below_more}
+use Rattle.obj_entries.proofs.Entries.{entry-of-word}
 use Rattle.obj_entries.proofs.shaped_row.Goals as goal
 
 pub loop-k-init : goal.loop-k-init
-loop-k-init c = search (rules, summed_none)
+loop-k-init c = sym (all_below_none _)
 
 pub loop-k-preserved : goal.loop-k-preserved
 loop-k-preserved c =
-    let bytes = c.shared_slice_known-1.given in
-    summed_more c.loop-k.invariant (search rules) (search rules)
-    (rw (← entry-of-word _ bytes _ c.word_at.ensures) c.fault-faults.ensures.0)
-
-pub returns : goal.returns
-returns c = ap (λ n. eqb n 0) (summed-all c.loop-k.invariant (search rules)) ∙ shaped_row_faults _
+    let asked = c.is_well_shaped-shaped.ensures ∙ ap well_shaped (entry-of-word _ c.fits-entries _ c.word_at.ensures) in
+    ap₂ ◌&&◌ c.loop-k.invariant asked ∙ sym (all_below_more _ _)

@@ -6,4 +6,4 @@ use Rattle.regs_window.proofs.read_win1.Goals as goal
 pub returns : goal.returns
 returns c =
     let permitted = high_flags c.from-flags.ensures c.read_16.ensures in
-    rw (c.read_16-2.ensures, c.read_16-3.ensures, permitted) at c.from.ensures
+    rw (c.read_16-2.ensures, c.read_16-3.ensures, permitted) at c.new.ensures

@@ -1,0 +1,2 @@
+-- Why a call is refused. Assumes nothing.
+pub mod Refusal

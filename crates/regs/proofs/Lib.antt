@@ -1,2 +1,0 @@
--- The laws of registers. Assumes nothing.
-pub mod Laws
