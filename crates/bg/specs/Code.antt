@@ -1,27 +1,27 @@
--- As code has it: what backgrounds and their pixels are drawn from, and reference numbers and steps larger by a bias (01,
--- "Backgrounds").
+-- As code has it: what backgrounds and their pixels are drawn from (01, "Backgrounds").
 -- No exported contract reaches this file. Assumes nothing.
-use Rattle.std.specs.Prelude.{ℕ, ◌^◌, ◌≤◌, ◌<◌, ◌≡◌, Bool, true, List, length}
-use Rattle.std.proofs.Math.IntN.{sub_ℕ}
-use Rattle.signed.specs.Signed.{signed16, in_range}
-use Rattle.memory.specs.Sizes.{registers_size}
-use Rattle.memory.specs.Code.{Lent}
+use Rattle.std.specs.Prelude.{ℕ, ◌≤◌, ◌<◌, ◌≡◌, Bool, true, List, ℤ}
+use Rattle.memory.specs.Memory.{Memory}
+use Rattle.signed.specs.Signed.{in_range}
 use Rattle.regs.specs.Registers.{dispcnt, pa, pc}
 use Rattle.regs.specs.Display.{mode}
+use Rattle.regs.specs.Background.{character_base_block, screen_base_block, affine_wraparound, size, char_block, screen_block}
+use Rattle.regs.specs.declared.DisplayControl.{DisplayControl}
 use Rattle.bg_points.specs.Code.{Side}
+use Rattle.bg_points.specs.Point.{transform_bg_point, point_color}
 use Rattle.bg_points.specs.References.{in_ranges}
 use Rattle.bg_points.specs.declared.ViewPort.{ViewPort}
 use Rattle.bg_points.specs.declared.references.References.{References}
-use Rattle.bg.specs.Bitmap.{bitmap_width, bitmap_height}
+use Rattle.bg.specs.Affine.{affine_side}
+use Rattle.bg.specs.Bitmap.{bitmap_width, bitmap_height, bitmap_start}
 use Rattle.bg.specs.Background.{reference_x, reference_y}
+use Rattle.bg.specs.declared.affine.AffinePicture.{AffinePicture}
+use Rattle.bg.specs.declared.bitmap.Bitmap.{Bitmap}
 use Rattle.bg.specs.declared.steps.BgAffine.{BgAffine}
-use Rattle.bg.specs.declared.steps.Lifted.{Lifted}
 
 -- What a background's line is drawn from.
-pub record Drawable (vram palette registers : List ℕ) (references : References) (bg line : ℕ) : Type 0 where
-  pub lent : Lent vram palette
-  pub registers_is : length registers ≡ registers_size
-  pub mode< : mode (dispcnt registers) < 6
+pub record Drawable (m : Memory) (references : References) (bg line : ℕ) : Type 0 where
+  pub mode< : mode (dispcnt m.registers) < 6
   pub ranges : in_ranges references ≡ true
   pub bg< : bg < 4
   pub line< : line < 160
@@ -38,41 +38,36 @@ pub record Liftable (a : BgAffine) : Type 0 where
   pub x_in : in_range a.x ≡ true
   pub y_in : in_range a.y ≡ true
 
--- The same, the reference numbers 2^28 larger and the steps 2^15.
-pub record LiftedOf (a : BgAffine) (l : Lifted) : Type 0 where
-  pub x_is : a.x ≡ sub_ℕ l.x (2 ^ 28)
-  pub y_is : a.y ≡ sub_ℕ l.y (2 ^ 28)
-  pub pa_is : signed16 a.pa ≡ sub_ℕ l.pa (2 ^ 15)
-  pub pc_is : signed16 a.pc ≡ sub_ℕ l.pc (2 ^ 15)
-  pub x< : l.x < 2 ^ 29
-  pub y< : l.y < 2 ^ 29
-  pub pa< : l.pa < 2 ^ 16
-  pub pc< : l.pc < 2 ^ 16
+-- ---- pictures, of any kind
 
--- The map and the tiles of an affine background lie in video memory.
-pub record AffineBases (vram palette : List ℕ) (screen tiles : ℕ) : Type 0 where
-  pub lent : Lent vram palette
-  pub screen≤ : screen ≤ 0xf800
-  pub tiles≤ : tiles ≤ 0xc000
+-- The colour at a point.
+abbrev pub view_color : ViewPort → (ℕ → ℕ → ℕ) → ℤ → ℤ → ℕ
+view_color v pixel x y = point_color v.wraparound v.w v.h pixel x y
 
--- A pixel of an affine background, which is a square.
-pub record AffinePlace (side x y : ℕ) : Type 0 where
-  pub side≤ : side ≤ 1024
-  pub x< : x < side
-  pub y< : y < side
+-- The colour at a column.
+abbrev pub picture_color : ViewPort → (ℕ → ℕ → ℕ) → BgAffine → ℕ → ℕ
+picture_color v pixel a column = view_color v pixel (transform_bg_point a.x a.pa column) (transform_bg_point a.y a.pc column)
 
--- What an affine background is drawn with.
-pub record AffineViewPort (v : ViewPort) : Type 0 where
-  pub h_is : v.h ≡ v.w
-  pub w≤ : v.w ≤ 1024
-  pub w_side : Side v.w
-  pub h_side : Side v.h
+-- ---- affine backgrounds
 
--- What a bitmap's line is drawn from.
-pub record BitmapLine (vram palette : List ℕ) (frame : ℕ) (a : BgAffine) : Type 0 where
-  pub lent : Lent vram palette
-  pub frame< : frame < 2
-  pub liftable : Liftable a
+-- An affine background is what its control says.
+pub record AffineOf (control : ℕ) (p : AffinePicture) : Type 0 where
+  pub screen_is : p.screen_block ≡ screen_block (screen_base_block control)
+  pub tiles_is : p.char_block ≡ char_block (character_base_block control)
+  pub w_is : p.viewport.w ≡ affine_side (size control)
+  pub h_is : p.viewport.h ≡ affine_side (size control)
+  pub wraparound_is : p.viewport.wraparound ≡ affine_wraparound control
+
+-- Its map and its tiles lie in video memory.
+pub record AffineDrawn (p : AffinePicture) : Type 0 where
+  pub screen≤ : p.screen_block ≤ 0xf800
+  pub tiles≤ : p.char_block ≤ 0xc000
+  pub h_is : p.viewport.h ≡ p.viewport.w
+  pub w≤ : p.viewport.w ≤ 1024
+  pub w_side : Side p.viewport.w
+  pub h_side : Side p.viewport.h
+
+-- ---- bitmaps
 
 -- A mode's picture has its width and height, and repeats if the wrap bit is set.
 pub record BitmapViewPort (mode : ℕ) (wraparound : Bool) (v : ViewPort) : Type 0 where
@@ -80,20 +75,16 @@ pub record BitmapViewPort (mode : ℕ) (wraparound : Bool) (v : ViewPort) : Type
   pub h_is : v.h ≡ bitmap_height mode
   pub wraparound_is : v.wraparound ≡ wraparound
 
--- A bitmap's frame starts in video memory.
-pub record BitmapPage (vram palette : List ℕ) (page : ℕ) : Type 0 where
-  pub lent : Lent vram palette
-  pub page≤ : page ≤ 0xa000
+-- A bitmap is what the display control and its own say.
+pub record BitmapOf (d : DisplayControl) (control : ℕ) (p : Bitmap) : Type 0 where
+  pub mode_is : p.mode ≡ d.mode
+  pub page_is : p.page ≡ bitmap_start d.mode d.display_frame_select
+  pub viewport_is : BitmapViewPort d.mode (affine_wraparound control) p.viewport
 
--- A pixel of a bitmap.
-pub record BitmapPlace (w x y : ℕ) : Type 0 where
-  pub w≤ : w ≤ 240
-  pub x< : x < w
-  pub y< : y < 160
-
--- What a bitmap is drawn with: sides that divide the bias, and none longer than the screen's.
-pub record BitmapSides (v : ViewPort) : Type 0 where
-  pub w≤ : v.w ≤ 240
-  pub w_side : Side v.w
-  pub h≤ : v.h ≤ 160
-  pub h_side : Side v.h
+-- Its frame lies in video memory, no side is longer than the screen's, and the bias of a coordinate is a multiple of each.
+pub record BitmapDrawn (p : Bitmap) : Type 0 where
+  pub page≤ : p.page ≤ 0xa000
+  pub w≤ : p.viewport.w ≤ 240
+  pub w_side : Side p.viewport.w
+  pub h≤ : p.viewport.h ≤ 160
+  pub h_side : Side p.viewport.h

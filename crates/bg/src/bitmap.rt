@@ -1,16 +1,12 @@
-// Bitmap backgrounds, of modes 3 to 5 (gpu/render/bitmap.rs), as one routine: they differ in size, page and pixel.
+// Bitmap backgrounds, of modes 3 to 5 (gpu/render/bitmap.rs), as one picture: they differ in size, page and pixel.
 ghost use Rattle.std.specs.Prelude.{◌≡◌, ◌≤◌, ◌<◌};
-ghost use Rattle.rgb15.specs.Colour.{rgb};
-ghost use Rattle.rows.specs.Tab.{tab};
-ghost use Rattle.bg_points.specs.Code.{coordinate};
-ghost use Rattle.bg_points.specs.Point.{point_color};
-ghost use Rattle.bg.specs.Bitmap.{bitmap_start, bitmap_pixel, bitmap_color};
-ghost use Rattle.bg.specs.Code.{BitmapViewPort, BitmapLine, BitmapPage, BitmapPlace, BitmapSides};
+ghost use Rattle.bg.specs.Bitmap.{bitmap_start, bitmap_pixel};
+ghost use Rattle.bg.specs.Code.{BitmapViewPort, BitmapOf, BitmapDrawn};
 
-use crate::steps::BgAffine;
-use bg_points::{ViewPort, rem_euclid, transform_bg_point};
-use memory::{DISPLAY_HEIGHT, DISPLAY_WIDTH, get_palette_color, read_8, read_16};
-use regs::BgControl;
+use crate::picture::Picture;
+use bg_points::ViewPort;
+use memory::{DISPLAY_HEIGHT, DISPLAY_WIDTH, Memory, get_palette_color, read_8, read_16};
+use regs::{BgControl, DisplayControl};
 use rgb15::Rgb15;
 
 // The size of a picture in mode 5, and in modes 3 and 4.
@@ -29,19 +25,12 @@ const PAGE_SIZE: usize = 0xa000;
 fn bitmap_viewport(mode: u16, wraparound: bool) -> ViewPort
     ensures { BitmapViewPort mode wraparound result }
 {
-    if mode == 5 {
-        ViewPort {
-            w: MODE5_WIDTH,
-            h: MODE5_HEIGHT,
-            wraparound,
-        }
+    let (w, h) = if mode == 5 {
+        (MODE5_WIDTH, MODE5_HEIGHT)
     } else {
-        ViewPort {
-            w: SCREEN_WIDTH,
-            h: SCREEN_HEIGHT,
-            wraparound,
-        }
-    }
+        (SCREEN_WIDTH, SCREEN_HEIGHT)
+    };
+    ViewPort { w, h, wraparound }
 }
 
 // Where a mode's frame starts.
@@ -56,73 +45,47 @@ fn page_ofs(mode: u16, frame: u16) -> usize
     }
 }
 
-// The colour at a pixel of a bitmap: words taken whole, or bytes through the palette.
-fn bitmap_pixel(
-    vram: &[u8],
-    palette: &[u8],
-    mode: u16,
-    page: usize,
-    w: usize,
-    x: usize,
-    y: usize,
-) -> Rgb15
-    requires { BitmapPage vram.now palette.now page × BitmapPlace w x y }
-    ensures { result.0 ≡ bitmap_pixel vram.now palette.now mode page w x y }
-{
-    let index = x + w * y;
-    if mode == 4 {
-        get_palette_color(palette, read_8(vram, page + index), 0, 0)
-    } else {
-        Rgb15(read_16(vram, page + 2 * index))
+// A bitmap: its mode, where its frame starts, and its size.
+#[derive(Clone, Copy)]
+pub struct Bitmap {
+    pub mode: u16,
+    pub page: usize,
+    pub viewport: ViewPort,
+}
+
+impl Bitmap {
+    pub fn new(dispcnt: DisplayControl, control: u16) -> Bitmap
+        requires { dispcnt.display_frame_select < 2 }
+        ensures { BitmapOf dispcnt control result × BitmapDrawn result }
+    {
+        let bgcnt = BgControl::from(control);
+        Bitmap {
+            mode: dispcnt.mode,
+            page: page_ofs(dispcnt.mode, dispcnt.display_frame_select),
+            viewport: bitmap_viewport(dispcnt.mode, bgcnt.affine_wraparound),
+        }
     }
 }
 
-// The colour at a point of a bitmap.
-fn bitmap_color(
-    vram: &[u8],
-    palette: &[u8],
-    mode: u16,
-    page: usize,
-    viewport: ViewPort,
-    x: u32,
-    y: u32,
-) -> Rgb15
-    requires { BitmapPage vram.now palette.now page × BitmapSides viewport }
-    ensures { result.0 ≡ point_color viewport.wraparound viewport.w viewport.h
-        (bitmap_pixel vram.now palette.now mode page viewport.w) (coordinate x) (coordinate y) }
-{
-    if !viewport.shows(x, y) {
-        return Rgb15::TRANSPARENT;
-    }
-    let px = rem_euclid(x, viewport.w) as usize;
-    let py = rem_euclid(y, viewport.h) as usize;
-    bitmap_pixel(vram, palette, mode, page, viewport.w as usize, px, py)
-}
+impl Picture for Bitmap {
+    ghost Drawn = { BitmapDrawn };
 
-// A bitmap's line.
-pub fn render_bitmap(
-    vram: &[u8],
-    palette: &[u8],
-    mode: u16,
-    frame: u16,
-    control: u16,
-    affine: BgAffine,
-) -> [Rgb15; DISPLAY_WIDTH]
-    requires { BitmapLine vram.now palette.now frame affine }
-    ensures { result ≡ tab (λ column. rgb (bitmap_color vram.now palette.now mode frame control
-        affine.x affine.y affine.pa affine.pc column)) 240 }
-{
-    let bgcnt = BgControl::from(control);
-    let viewport = bitmap_viewport(mode, bgcnt.affine_wraparound);
-    let page = page_ofs(mode, frame);
-    let lifted = affine.lift();
-    let mut bg_line = [Rgb15::TRANSPARENT; DISPLAY_WIDTH];
-    let mut screen_x: usize = 0;
-    while screen_x < DISPLAY_WIDTH {
-        let x = transform_bg_point(lifted.x, lifted.pa, screen_x as u32);
-        let y = transform_bg_point(lifted.y, lifted.pc, screen_x as u32);
-        bg_line[screen_x] = bitmap_color(vram, palette, mode, page, viewport, x, y);
-        screen_x += 1;
+    ghost viewport = { λ p. p.viewport };
+
+    ghost pixel = { λ p m. bitmap_pixel m.vram m.palette p.mode p.page p.viewport.w };
+
+    fn viewport(self) -> ViewPort {
+        self.viewport
     }
-    bg_line
+
+    // Words taken whole, or bytes through the palette.
+    fn pixel(self, memory: &Memory, x: usize, y: usize) -> Rgb15 {
+        let vram = memory.vram;
+        let index = x + self.viewport.w as usize * y;
+        if self.mode == 4 {
+            get_palette_color(memory.palette, read_8(vram, self.page + index), 0, 0)
+        } else {
+            Rgb15(read_16(vram, self.page + 2 * index))
+        }
+    }
 }

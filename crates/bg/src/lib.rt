@@ -11,13 +11,15 @@ ghost use Rattle.bg.specs.Code.{Drawable};
 
 mod affine;
 mod bitmap;
+mod picture;
 mod steps;
 
-use affine::render_aff_bg;
+use affine::AffinePicture;
 use bg_points::References;
-use bg_regular::render_reg_bg;
-use bitmap::render_bitmap;
-use memory::{DISPLAY_WIDTH, read_16};
+use bg_regular::RegularLine;
+use bitmap::Bitmap;
+use memory::{DISPLAY_WIDTH, Memory, read_16};
+use picture::render_picture;
 use regs::iodev::{BG0CNT, read_dispcnt, read_hofs, read_vofs};
 use rgb15::Rgb15;
 use steps::read_bg_affine;
@@ -72,6 +74,7 @@ const BG_KINDS: [[BgKind; 4]; 6] = [
 ];
 
 impl BgKind {
+    #[tactic(auto, unfolding(crate::specs::Background::bg_kind))]
     pub fn of(mode: usize, bg: usize) -> BgKind
         requires { (mode < 6) × (bg < 4) }
         ensures { result ≡ bg_kind mode bg }
@@ -83,39 +86,34 @@ impl BgKind {
 
 // A background's line, by the mode that the registers give; one that the mode doesn't have is transparent.
 pub fn render_bg(
-    vram: &[u8],
-    palette: &[u8],
-    registers: &[u8],
+    memory: &Memory,
     references: References,
     bg: usize,
     line: usize,
 ) -> [Rgb15; DISPLAY_WIDTH]
-    requires { Drawable vram.now palette.now registers.now references bg line }
-    ensures { result ≡ tab (λ column. rgb (background_color vram.now palette.now registers.now
-        references bg column line)) 240 }
+    requires { Drawable memory.now references bg line }
+    ensures { result ≡ tab (λ column. rgb (background_color memory.now references bg column line)) 240 }
 {
+    let registers = memory.registers;
     let control = read_16(registers, BG0CNT + 2 * bg);
     let dispcnt = read_dispcnt(registers);
-    let kind = BgKind::of(dispcnt.mode as usize, bg);
-    match kind {
+    match BgKind::of(dispcnt.mode as usize, bg) {
         BgKind::Regular => {
-            render_reg_bg(
-                vram,
-                palette,
+            let regular = RegularLine {
                 control,
-                read_hofs(registers, bg),
-                read_vofs(registers, bg),
+                hofs: read_hofs(registers, bg),
+                vofs: read_vofs(registers, bg),
                 line,
-            )
+            };
+            regular.render(memory)
         }
         BgKind::Affine => {
             let affine = read_bg_affine(registers, references, bg);
-            render_aff_bg(vram, palette, control, affine)
+            render_picture(AffinePicture::from(control), memory, affine)
         }
         BgKind::Bitmap => {
             let affine = read_bg_affine(registers, references, bg);
-            let frame = dispcnt.display_frame_select;
-            render_bitmap(vram, palette, dispcnt.mode, frame, control, affine)
+            render_picture(Bitmap::new(dispcnt, control), memory, affine)
         }
         BgKind::Absent => [Rgb15::TRANSPARENT; DISPLAY_WIDTH],
     }

@@ -1,6 +1,6 @@
 -- As code has it: coordinates larger by 0x1e0000, so that none is below 0, and what they are computed from (01, "Backgrounds").
 -- No exported contract reaches this file. Assumes nothing.
-use Rattle.std.specs.Prelude.{ℕ, ◌%◌, ◌^◌, ◌<◌, ◌≡◌, ℤ}
+use Rattle.std.specs.Prelude.{ℕ, ◌%◌, ◌<◌, ◌≡◌, ℤ}
 use Rattle.std.proofs.Math.IntN.{sub_ℕ}
 
 -- The coordinate that a number stands for.
@@ -10,9 +10,3 @@ coordinate q = sub_ℕ q 0x1e0000
 -- A side that 0x1e0000 is a multiple of: the remainder of a number is then that of its coordinate.
 abbrev pub Side : ℕ → Type 0
 Side side = (0 < side) × (0x1e0000 % side ≡ 0)
-
--- A reference number 2^28 larger and a step 2^15 larger, at a column of the screen.
-pub record LiftedPoint (reference step column : ℕ) : Type 0 where
-  pub reference< : reference < 2 ^ 29
-  pub step< : step < 2 ^ 16
-  pub column< : column < 240

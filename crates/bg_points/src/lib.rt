@@ -2,16 +2,15 @@
 
 #![tactic(auto)]
 
-ghost use Rattle.std.specs.Prelude.{◌≡◌, ◌&&◌, ◌/◌, ◌<◌, ◌^◌, pos, ◌+ℤ◌, ◌*ℤ◌};
-ghost use Rattle.std.proofs.Math.IntN.{sub_ℕ};
-ghost use Rattle.signed.specs.Signed.{down256, wrapped, within};
-ghost use Rattle.bg_points.specs.Code.{coordinate, Side, LiftedPoint};
-ghost use Rattle.bg_points.specs.Point.{shows};
+ghost use Rattle.std.specs.Prelude.{◌≡◌, true, ◌&&◌, ◌/◌, ◌<◌};
+ghost use Rattle.signed.specs.Signed.{in_range, wrapped, within};
+ghost use Rattle.bg_points.specs.Code.{coordinate, Side};
+ghost use Rattle.bg_points.specs.Point.{transform_bg_point, shows};
 
 mod references;
 
 pub use references::References;
-use signed::{HALF_BIAS, REFERENCE_BIAS};
+use signed::{HALF_BIAS, REFERENCE_BIAS, lift_half, lift_i32};
 
 // What a number is larger by than the coordinate that it stands for: a multiple of every side.
 const BG_POINT_BIAS: u32 = 0x1e_0000;
@@ -31,11 +30,7 @@ pub struct ViewPort {
 fn contains(side: u32, q: u32) -> bool
     ensures { result ≡ within (coordinate q) side }
 {
-    if q < BG_POINT_BIAS {
-        false
-    } else {
-        q - BG_POINT_BIAS < side
-    }
+    BG_POINT_BIAS <= q && q - BG_POINT_BIAS < side
 }
 
 impl ViewPort {
@@ -47,6 +42,7 @@ impl ViewPort {
     }
 
     // Whether a point shows a pixel.
+    #[tactic(auto, unfolding(crate::specs::Point::shows))]
     pub fn shows(self, x: u32, y: u32) -> bool
         ensures { result ≡ shows self.wraparound self.w self.h (coordinate x) (coordinate y) }
     {
@@ -59,9 +55,7 @@ pub fn rem_euclid(q: u32, side: u32) -> u32
     requires { Side side }
     ensures { (result ≡ wrapped (coordinate q) side) × (result < side) }
 {
-    if q < BG_POINT_BIAS {
-        q % side
-    } else if q - BG_POINT_BIAS < side {
+    if contains(side, q) {
         q - BG_POINT_BIAS
     } else {
         q % side
@@ -75,10 +69,12 @@ fn down_256(sum: u32) -> u32
     sum / 256
 }
 
-// A coordinate of the point of a column, from a lifted reference number and a lifted step.
-pub fn transform_bg_point(reference: u32, step: u32, screen_x: u32) -> u32
-    requires { LiftedPoint reference step screen_x }
-    ensures { down256 (sub_ℕ reference (2 ^ 28) +ℤ pos screen_x *ℤ sub_ℕ step (2 ^ 15)) ≡ coordinate result }
+// A coordinate of the point of a column, from a reference number and a step.
+pub fn transform_bg_point(reference: i32, step: u16, screen_x: u32) -> u32
+    requires { (in_range reference ≡ true) × (screen_x < 240) }
+    ensures { transform_bg_point reference step screen_x ≡ coordinate result }
 {
+    let reference = lift_i32(reference);
+    let step = lift_half(step);
     down_256(reference + REFERENCE_RISE + screen_x * step - screen_x * HALF_BIAS)
 }

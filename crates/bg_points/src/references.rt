@@ -15,6 +15,7 @@ pub struct References {
 
 impl References {
     // Whether each is in range.
+    #[tactic(auto, unfolding(crate::specs::References::in_ranges))]
     pub fn in_ranges(self) -> bool
         ensures { result ≡ in_ranges self }
     {

@@ -1,3 +1,2 @@
--- The laws of regular backgrounds, and of lines of colours of any kind. Assumes nothing.
+-- The laws of regular backgrounds. Assumes nothing.
 pub mod Maps
-pub mod Lines

@@ -1,28 +1,26 @@
 -- Laws of maps and tiles. No contract cites this file. Assumes nothing.
 use Prim.Native.Nat.{ℕ, ◌+◌, ◌*◌, ◌/◌, ◌%◌, ◌≤◌, ◌<◌}
 use mathlib.Core.Path.{◌≡◌, refl, sym, ap, ◌∙◌}
-use mathlib.Core.Logic.{◌⊎◌, ⊎_elim}
+use mathlib.Core.Logic.{◌⊎◌, inl, inr, ⊎_elim}
 use mathlib.Core.Bool.{Bool, true}
 use mathlib.Core.List.{List}
-use native.Mathlib.Nat.{mul-le-mul}
+use native.Mathlib.Nat.{mul-le-mul, eq-or-lt_of_le}
 use native.Mathlib.Omega.{arith}
 use lib.ListN.{get_or, replicate}
 use Rattle.rgb15.specs.Colour.{rgb, transparent}
 use Rattle.rgb15.specs.declared.Rgb15.{Rgb15}
 use Rattle.rows.specs.Tab.{tab}
 use Rattle.rows.proofs.Tab.{get_or-of-tab, tab_cong}
-use Rattle.memory.specs.Sizes.{video_ram_size}
+use Rattle.memory.specs.Memory.{Memory}
+use Rattle.std.specs.List.{flat_map}
 use Rattle.memory.specs.Tiles.{tile_size, palette_bank}
 use Rattle.memory.specs.declared.PixelFormat.{PixelFormat}
-use Rattle.memory.proofs.Laws.{tile_size_bound}
 use Rattle.tiles.specs.Flip.{flip}
 use Rattle.tiles.proofs.Empty.{empty_row, row_empty}
-use Rattle.regs.specs.Background.{BgControlOf, RegularSize, char_block, screen_block, regular_width, regular_height, tile_format, size}
-use Rattle.regs.specs.declared.BgControl.{BgControl}
-use Rattle.regs.specs.declared.BgSize.{BgSize}
-use Rattle.regs.proofs.Laws.{regular_width_cases}
 use Rattle.bg_regular.specs.Regular.{tile_index, x_flip, y_flip, entry_bank, tile_color, entry_color}
-use Rattle.bg_regular.specs.Regular.{regular_x, map_entry, regular_pixel, regular_color}
+use Rattle.bg_regular.specs.Regular.{map_entry, regular_pixel, regular_color}
+use Rattle.bg_regular.specs.Code.{MapSide, RegularMapOf, map_pixel}
+use Rattle.bg_regular.specs.declared.RegularMap.{RegularMap}
 
 -- The blocks of the rows above a pixel of a regular map.
 pub block_row_bound : (width y : ℕ) → width ≤ 512 → y < 512 → width / 256 * (y / 256) ≤ 2
@@ -30,14 +28,6 @@ block_row_bound width y width≤ y< =
     let across : width / 256 ≤ 2 = omega arith in
     let down : y / 256 ≤ 1 = omega arith in
     omega (arith, mul-le-mul across down)
-
--- The tile of an entry lies in video memory.
-pub entry_tile_bound : (format : PixelFormat) (entry : ℕ) {tiles index size : ℕ} →
-    tiles ≤ 0xc000 → index ≡ tile_index entry → size ≡ tile_size format → tiles + index * size + 63 < video_ram_size
-entry_tile_bound format entry {index = index} {size} tiles≤ index_is size_is =
-    let index≤ : index ≤ 1023 = omega arith in
-    let size≤ : size ≤ 64 = omega (arith, tile_size_bound format) in
-    omega (arith, mul-le-mul index≤ size≤)
 
 module _ (vram palette : List ℕ) (tiles : ℕ) (format : PixelFormat) (entry y : ℕ)
     {index size down : ℕ} {yflip : Bool}
@@ -80,28 +70,41 @@ tile_column width tile r widths r< =
     (λ e. rw e (record { whole = omega arith; next = omega arith }))
     widths
 
--- The colours of an entry's row are those of the line's eight columns, as they are made: what is read of the control, of the map.
-pub regular_tile_is : (vram palette : List ℕ) (control hofs vofs line t : ℕ)
-    {b : BgControl} {s : BgSize} {tiles screen x y entry : ℕ} {format : PixelFormat} →
-    BgControlOf control b → tiles ≡ char_block b.character_base_block → screen ≡ screen_block b.screen_base_block →
-    format ≡ tile_format b.palette256 → RegularSize b.size s → y ≡ (line + vofs) % s.height →
-    x ≡ 8 * (hofs / 8 + t) % s.width → entry ≡ map_entry vram screen s.width x y →
-    (r : ℕ) → r < 8 →
-    rgb (entry_color vram palette tiles format entry r (y % 8))
-    ≡ rgb (regular_color vram palette control (hofs / 8 * 8) vofs (8 * t + r) line)
+pub side_cases : (side : ℕ) → MapSide side → (side ≡ 256) ⊎ (side ≡ 512)
+side_cases side s =
+    ⊎_elim (λ e. inl (sym e)) (λ lt. inr (omega (arith, lt, s.whole, s.side≤))) (eq-or-lt_of_le s.side≥)
+
+-- The eight colours that the entry of a tile's first column shows are those of its eight columns.
+pub tile_row_is : (memory : Memory) (m : RegularMap) (tile y : ℕ) {first entry : ℕ} {r : List Rgb15} →
+    (m.width ≡ 256) ⊎ (m.width ≡ 512) → first ≡ 8 * tile % m.width → entry ≡ map_entry memory.vram m.tilemap_base m.width first y →
+    r ≡ tab (λ x. rgb (entry_color memory.vram memory.palette m.tileset_base m.format entry x (y % 8))) 8 →
+    r ≡ tab (λ x. rgb (map_pixel memory m ((8 * tile + x) % m.width) y)) 8
+tile_row_is memory m tile y {first} {entry} widths first_is entry-is r-is = r-is ∙ tab_cong _ _ 8 (λ x x<. ap rgb (color x x<))
+  where
+    color : (x : ℕ) → x < 8 → entry_color memory.vram memory.palette m.tileset_base m.format entry x (y % 8)
+        ≡ map_pixel memory m ((8 * tile + x) % m.width) y
+    color x x< =
+        let column = tile_column m.width tile x widths x< in
+        let next : (8 * tile + x) % m.width ≡ first + x = column.next ∙ ap (λ (n : ℕ). n + x) (sym first_is) in
+        let whole : first % 8 ≡ 0 = ap (λ (n : ℕ). n % 8) first_is ∙ column.whole in
+        let pixel : (first + x) % 8 ≡ x = omega arith in
+        rw (next, pixel, entry-is, map_entry_tile memory.vram m.tilemap_base m.width first y x whole x<) refl
+
+-- So a tile of a map is eight columns of the line.
+pub map_tile_is : (memory : Memory) (control hofs vofs line t y : ℕ) {m : RegularMap} {r : List Rgb15} →
+    RegularMapOf control m → y ≡ (line + vofs) % m.height →
+    r ≡ tab (λ x. rgb (map_pixel memory m ((8 * (hofs / 8 + t) + x) % m.width) y)) 8 →
+    r ≡ tab (λ x. rgb (regular_color memory.vram memory.palette control (hofs / 8 * 8) vofs (8 * t + x) line)) 8
 unfolding regular_color regular_pixel
-regular_tile_is vram palette control hofs vofs line t {b} {s} {tiles} {screen} {x} {y} control-is tiles-is screen_is format-is size_is y_is x_is entry-is r r< =
-    let W = regular_width (size control) in
-    let width : s.width ≡ W = size_is.width_is ∙ ap regular_width control-is.size_is in
-    let height : s.height ≡ regular_height (size control) = size_is.height_is ∙ ap regular_height control-is.size_is in
-    let column : 8 * t + r + hofs / 8 * 8 ≡ 8 * (hofs / 8 + t) + r = omega arith in
-    let tile = tile_column W (hofs / 8 + t) r (regular_width_cases (size control)) r< in
-    let first : x ≡ 8 * (hofs / 8 + t) % W = x_is ∙ ap (λ (n : ℕ). 8 * (hofs / 8 + t) % n) width in
-    let next : regular_x control (hofs / 8 * 8) (8 * t + r) ≡ x + r
-    = ap (λ (n : ℕ). n % W) column ∙ tile.next ∙ ap (λ (n : ℕ). n + r) (sym first) in
-    let whole : x % 8 ≡ 0 = ap (λ (n : ℕ). n % 8) first ∙ tile.whole in
-    let pixel : (x + r) % 8 ≡ r = omega arith in
-    ap rgb (cc (map_entry_tile vram screen s.width x y r whole r<))
+map_tile_is memory control hofs vofs line t y map-is y_is r-is =
+    r-is ∙ tab_cong _ _ 8 (λ x x<.
+    let column : 8 * (hofs / 8 + t) + x ≡ 8 * t + x + hofs / 8 * 8 = omega arith in
+    ap rgb (cc (column, map-is.screen_is, map-is.tiles_is, map-is.format_is, map-is.width_is, map-is.height_is, y_is)))
+
+-- The tiles one after another are the columns.
+pub flat_tiles : {A : Type 0} (f : ℕ → A) → flat_map (λ x. x) (tab (λ t. tab (λ x. f (8 * t + x)) 8) 31) ≡ tab f 248
+unfolding tab
+flat_tiles f = refl
 
 -- The offset's part below a tile may as well be added to the column.
 regular_color_offset : (vram palette : List ℕ) (control hofs vofs column line : ℕ)

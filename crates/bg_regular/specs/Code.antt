@@ -1,15 +1,18 @@
--- As code has it: what a regular background's line, map and tiles are read from (01, "Backgrounds", its first paragraph).
+-- As code has it: what a regular background's line and map are read from (01, "Backgrounds", its first paragraph).
 -- No exported contract reaches this file. Assumes nothing.
-use Rattle.std.specs.Prelude.{ℕ, ◌%◌, ◌≤◌, ◌<◌, ◌≡◌, List, length}
-use Rattle.memory.specs.Sizes.{video_ram_size}
-use Rattle.memory.specs.Code.{Lent}
+use Rattle.std.specs.Prelude.{ℕ, ◌%◌, ◌≤◌, ◌<◌, ◌≡◌}
+use Rattle.memory.specs.Memory.{Memory}
+use Rattle.regs.specs.Background.{character_base_block, screen_base_block, palette256, size, char_block, screen_block}
+use Rattle.regs.specs.Background.{regular_width, regular_height, tile_format}
+use Rattle.bg_regular.specs.Regular.{map_entry, entry_color}
+use Rattle.bg_regular.specs.declared.RegularLine.{RegularLine}
+use Rattle.bg_regular.specs.declared.RegularMap.{RegularMap}
 
--- What a line is drawn from, and where.
-pub record Scrolled (vram palette : List ℕ) (hofs vofs line : ℕ) : Type 0 where
-  pub lent : Lent vram palette
-  pub hofs< : hofs < 512
-  pub vofs< : vofs < 512
-  pub line< : line < 160
+-- The offsets have nine bits, and the line is one of the screen's.
+pub record Scrolled (l : RegularLine) : Type 0 where
+  pub hofs< : l.hofs < 512
+  pub vofs< : l.vofs < 512
+  pub line< : l.line < 160
 
 -- A side of a map is 256 or 512.
 pub record MapSide (side : ℕ) : Type 0 where
@@ -17,16 +20,23 @@ pub record MapSide (side : ℕ) : Type 0 where
   pub side≥ : 256 ≤ side
   pub side≤ : side ≤ 512
 
--- A pixel of a map, whose entry is read.
-pub record MapPixel (vram : List ℕ) (screen width x y : ℕ) : Type 0 where
-  pub vram_is : length vram ≡ video_ram_size
-  pub screen≤ : screen ≤ 0xf800
-  pub width≤ : width ≤ 512
-  pub x< : x < 512
-  pub y< : y < 512
+-- The map and its tiles lie in video memory.
+pub record Placed (m : RegularMap) : Type 0 where
+  pub screen≤ : m.tilemap_base ≤ 0xf800
+  pub tiles≤ : m.tileset_base ≤ 0xc000
+  pub width_side : MapSide m.width
+  pub height_side : MapSide m.height
 
--- A row of a tile that a map's entry names.
-pub record EntryRow (vram palette : List ℕ) (tiles y : ℕ) : Type 0 where
-  pub lent : Lent vram palette
-  pub tiles≤ : tiles ≤ 0xc000
-  pub y< : y < 8
+-- A map is what its control says.
+pub record RegularMapOf (control : ℕ) (m : RegularMap) : Type 0 where
+  pub screen_is : m.tilemap_base ≡ screen_block (screen_base_block control)
+  pub tiles_is : m.tileset_base ≡ char_block (character_base_block control)
+  pub format_is : m.format ≡ tile_format (palette256 control)
+  pub width_is : m.width ≡ regular_width (size control)
+  pub height_is : m.height ≡ regular_height (size control)
+
+-- The colour at x and y of a map.
+abbrev pub map_pixel : Memory → RegularMap → ℕ → ℕ → ℕ
+map_pixel memory m x y =
+    entry_color memory.vram memory.palette m.tileset_base m.format
+    (map_entry memory.vram m.tilemap_base m.width x y) (x % 8) (y % 8)

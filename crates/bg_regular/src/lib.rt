@@ -2,28 +2,25 @@
 
 #![tactic(auto)]
 
-ghost use Rattle.std.specs.Prelude.{◌≡◌, ◌*◌, ◌/◌, ◌%◌, ◌<◌};
+ghost use Rattle.std.specs.Prelude.{◌≡◌, ◌+◌, ◌*◌, ◌/◌, ◌%◌, ◌<◌};
 ghost use Rattle.rgb15.specs.Colour.{rgb};
 ghost use Rattle.rows.specs.Tab.{tab};
-ghost use Rattle.tiles.specs.Flip.{flip};
-ghost use Rattle.tiles.specs.Code.{ColorRow};
-ghost use Rattle.bg_regular.specs.Regular.{tile_index, x_flip, y_flip, entry_bank, map_entry, tile_color, entry_color, regular_color};
-ghost use Rattle.bg_regular.specs.Code.{Scrolled, MapSide, MapPixel, EntryRow};
+ghost use Rattle.bg_regular.specs.Regular.{tile_index, x_flip, y_flip, entry_bank, map_entry, entry_color, regular_color};
+ghost use Rattle.bg_regular.specs.Code.{Scrolled, MapSide, Placed, RegularMapOf, map_pixel};
 
-use memory::{DISPLAY_WIDTH, PixelFormat, read_16};
+use memory::{DISPLAY_WIDTH, Memory, PixelFormat, VideoRam, read_16};
 use regs::{BgControl, SCREEN_BLOCK_SIZE};
 use rgb15::Rgb15;
-use tiles::{TILE_SIDE, flip, flip_row, is_empty_row, tile_color};
+use std::array;
+use tiles::{TILE_SIDE, Tile, flip};
 
 // A map's block: pixels of a side, and tiles.
 const BLOCK_SIDE: usize = 256;
 
 const BLOCK_TILES: usize = BLOCK_SIDE / TILE_SIDE;
 
-// The tiles that a line goes through, of the first and the last a part, and their columns.
+// The tiles that a line goes through, of the first and the last a part.
 const LINE_TILES: usize = DISPLAY_WIDTH / TILE_SIDE + 1;
-
-const LINE_COLUMNS: usize = TILE_SIDE * LINE_TILES;
 
 // An entry of a regular background's map.
 #[derive(Clone, Copy)]
@@ -55,82 +52,6 @@ impl TileMapEntry {
     }
 }
 
-// The eight colours of a row of the tile at `tile_addr`, from right to left if it is flipped. Sprites have the like: one function
-// that both call would be inlined in neither, and a line would take a tenth more.
-fn tile_row(
-    vram: &[u8],
-    palette: &[u8],
-    tile_addr: usize,
-    y: usize,
-    format: PixelFormat,
-    bank: usize,
-    flipped: bool,
-) -> [Rgb15; TILE_SIDE]
-    requires { ColorRow vram.now palette.now 0 tile_addr y format bank }
-    ensures { result ≡ tab (λ x. rgb (tile_color vram.now palette.now tile_addr (flip flipped 8 x) y format bank)) 8 }
-{
-    let row = [
-        tile_color(vram, palette, 0, tile_addr, 0, y, format, bank),
-        tile_color(vram, palette, 0, tile_addr, 1, y, format, bank),
-        tile_color(vram, palette, 0, tile_addr, 2, y, format, bank),
-        tile_color(vram, palette, 0, tile_addr, 3, y, format, bank),
-        tile_color(vram, palette, 0, tile_addr, 4, y, format, bank),
-        tile_color(vram, palette, 0, tile_addr, 5, y, format, bank),
-        tile_color(vram, palette, 0, tile_addr, 6, y, format, bank),
-        tile_color(vram, palette, 0, tile_addr, 7, y, format, bank),
-    ];
-    flip_row(row, flipped)
-}
-
-// The eight colours that a map entry shows in row y of its tile. Empty rows are common, and are seen without looking up a pixel.
-fn entry_row(
-    vram: &[u8],
-    palette: &[u8],
-    tileset_base: usize,
-    format: PixelFormat,
-    entry: TileMapEntry,
-    y: usize,
-) -> [Rgb15; TILE_SIDE]
-    requires { EntryRow vram.now palette.now tileset_base y }
-    ensures { result ≡ tab (λ x. rgb (entry_color vram.now palette.now tileset_base format entry.0 x y)) 8 }
-{
-    let tile_addr = tileset_base + entry.tile_index() * format.tile_size();
-    let tile_py = flip(entry.y_flip(), TILE_SIDE, y);
-    if is_empty_row(vram, tile_addr, tile_py, format) {
-        return [Rgb15::TRANSPARENT; TILE_SIDE];
-    }
-    let bank = format.palette_bank(entry.palette_bank());
-    tile_row(
-        vram,
-        palette,
-        tile_addr,
-        tile_py,
-        format,
-        bank,
-        entry.x_flip(),
-    )
-}
-
-// The map's entry for a pixel.
-fn map_entry(
-    vram: &[u8],
-    tilemap_base: usize,
-    bg_width: usize,
-    bg_x: usize,
-    bg_y: usize,
-) -> TileMapEntry
-    requires { MapPixel vram.now tilemap_base bg_width bg_x bg_y }
-    ensures { result.0 ≡ map_entry vram.now tilemap_base bg_width bg_x bg_y }
-{
-    let sbb = bg_x / BLOCK_SIDE + bg_width / BLOCK_SIDE * (bg_y / BLOCK_SIDE);
-    let tile_x = bg_x / TILE_SIDE % BLOCK_TILES;
-    let tile_y = bg_y / TILE_SIDE % BLOCK_TILES;
-    TileMapEntry(read_16(
-        vram,
-        tilemap_base + SCREEN_BLOCK_SIZE * sbb + 2 * (tile_x + BLOCK_TILES * tile_y),
-    ))
-}
-
 // A coordinate wrapped by a side of 256 or 512, which are divided by as literals.
 fn wrap(at: usize, side: usize) -> usize
     requires { MapSide side }
@@ -139,64 +60,113 @@ fn wrap(at: usize, side: usize) -> usize
     if side == 512 { at % 512 } else { at % 256 }
 }
 
-// The 31 tiles that a line goes through, each whole: the line with its offset rounded down to a tile, and eight columns more.
-fn reg_bg_tiles(
-    vram: &[u8],
-    palette: &[u8],
-    control: u16,
-    hofs: usize,
-    vofs: usize,
-    line: usize,
-) -> [Rgb15; LINE_COLUMNS]
-    requires { Scrolled vram.now palette.now hofs vofs line }
-    ensures { result ≡ tab (λ column. rgb (regular_color vram.now palette.now control (hofs / 8 * 8) vofs column line)) 248 }
-{
-    let bgcnt = BgControl::from(control);
-    let tileset_base = bgcnt.char_block();
-    let tilemap_base = bgcnt.screen_block();
-    let format = bgcnt.tile_format();
-    let size = bgcnt.size_regular();
-    let bg_width = size.width;
-    let bg_y = wrap(line + vofs, size.height);
-    let mut tiles = [Rgb15::TRANSPARENT; LINE_COLUMNS];
-    let mut t: usize = 0;
-    while t < LINE_TILES {
-        let bg_x = wrap(TILE_SIDE * (hofs / TILE_SIDE + t), bg_width);
-        let entry = map_entry(vram, tilemap_base, bg_width, bg_x, bg_y);
-        let row = entry_row(vram, palette, tileset_base, format, entry, bg_y % TILE_SIDE);
-        let i = TILE_SIDE * t;
-        tiles[i] = row[0];
-        tiles[i + 1] = row[1];
-        tiles[i + 2] = row[2];
-        tiles[i + 3] = row[3];
-        tiles[i + 4] = row[4];
-        tiles[i + 5] = row[5];
-        tiles[i + 6] = row[6];
-        tiles[i + 7] = row[7];
-        t += 1;
-    }
-    tiles
+// A regular background's map and its tiles: where each starts, the format of the tiles, and the sides.
+#[derive(Clone, Copy)]
+pub struct RegularMap {
+    tilemap_base: usize,
+    tileset_base: usize,
+    format: PixelFormat,
+    width: usize,
+    height: usize,
 }
 
-// A regular background's line.
-pub fn render_reg_bg(
-    vram: &[u8],
-    palette: &[u8],
-    control: u16,
-    hofs: usize,
-    vofs: usize,
-    line: usize,
-) -> [Rgb15; DISPLAY_WIDTH]
-    requires { Scrolled vram.now palette.now hofs vofs line }
-    ensures { result ≡ tab (λ column. rgb (regular_color vram.now palette.now control hofs vofs column line)) 240 }
-{
-    let tiles = reg_bg_tiles(vram, palette, control, hofs, vofs, line);
-    let start_tile_x = hofs % TILE_SIDE;
-    let mut bg_line = [Rgb15::TRANSPARENT; DISPLAY_WIDTH];
-    let mut screen_x: usize = 0;
-    while screen_x < DISPLAY_WIDTH {
-        bg_line[screen_x] = tiles[screen_x + start_tile_x];
-        screen_x += 1;
+impl From<u16> for RegularMap {
+    ghost from_gives = { λ control map. RegularMapOf control map × Placed map };
+
+    fn from(control: u16) -> RegularMap {
+        let bgcnt = BgControl::from(control);
+        let size = bgcnt.size_regular();
+        RegularMap {
+            tilemap_base: bgcnt.screen_block(),
+            tileset_base: bgcnt.char_block(),
+            format: bgcnt.tile_format(),
+            width: size.width,
+            height: size.height,
+        }
     }
-    bg_line
+}
+
+impl RegularMap {
+    // The entry for a pixel.
+    fn entry(self, vram: &VideoRam, x: usize, y: usize) -> TileMapEntry
+        requires { Placed self × (x < 512) × (y < 512) }
+        ensures { result.0 ≡ map_entry vram.now self.tilemap_base self.width x y }
+    {
+        let sbb = x / BLOCK_SIDE + self.width / BLOCK_SIDE * (y / BLOCK_SIDE);
+        let tile_x = x / TILE_SIDE % BLOCK_TILES;
+        let tile_y = y / TILE_SIDE % BLOCK_TILES;
+        TileMapEntry(read_16(
+            vram,
+            self.tilemap_base + SCREEN_BLOCK_SIZE * sbb + 2 * (tile_x + BLOCK_TILES * tile_y),
+        ))
+    }
+
+    // The eight colours that an entry shows in row y of its tile. Empty rows are common, and are seen without looking up a pixel.
+    fn entry_row(self, memory: &Memory, entry: TileMapEntry, y: usize) -> [Rgb15; TILE_SIDE]
+        requires { Placed self × (y < 8) }
+        ensures { result ≡ tab (λ x. rgb (entry_color memory.now.vram memory.now.palette
+            self.tileset_base self.format entry.0 x y)) 8 }
+    {
+        let tile = Tile {
+            addr: self.tileset_base + entry.tile_index() * self.format.tile_size(),
+            format: self.format,
+            bank: self.format.palette_bank(entry.palette_bank()),
+        };
+        let tile_py = flip(entry.y_flip(), TILE_SIDE, y);
+        if tile.is_empty_row(memory.vram, tile_py) {
+            return [Rgb15::TRANSPARENT; TILE_SIDE];
+        }
+        tile.row::<0>(memory, tile_py, entry.x_flip())
+    }
+
+    // The eight colours of row y in the tile that is number `tile` from the left, where the map repeats.
+    fn tile_row(self, memory: &Memory, tile: usize, y: usize) -> [Rgb15; TILE_SIDE]
+        requires { Placed self × (tile < 128) × (y < 512) }
+        ensures { result ≡ tab (λ x. rgb (map_pixel memory.now self ((8 * tile + x) % self.width) y)) 8 }
+    {
+        let x = wrap(TILE_SIDE * tile, self.width);
+        let entry = self.entry(memory.vram, x, y);
+        self.entry_row(memory, entry, y % TILE_SIDE)
+    }
+}
+
+// A line of a regular background: its control, its offsets, and which line it is.
+#[derive(Clone, Copy)]
+pub struct RegularLine {
+    pub control: u16,
+    pub hofs: usize,
+    pub vofs: usize,
+    pub line: usize,
+}
+
+impl RegularLine {
+    // The 31 tiles that the line goes through, each whole: the line with its offset rounded down to a tile, and eight columns
+    // more.
+    fn tiles(self, memory: &Memory) -> [[Rgb15; TILE_SIDE]; LINE_TILES]
+        requires { Scrolled self }
+        ensures { result ≡ tab (λ t. tab (λ x. rgb (regular_color memory.now.vram memory.now.palette
+            self.control (self.hofs / 8 * 8) self.vofs (8 * t + x) self.line)) 8) 31 }
+    {
+        let map = RegularMap::from(self.control);
+        let first = self.hofs / TILE_SIDE;
+        let y = wrap(self.line + self.vofs, map.height);
+        array::from_fn(
+            |t: usize| -> [Rgb15; TILE_SIDE]
+                requires { Placed map × (first + t < 128) × (y < 512) }
+                ensures { result ≡ tab (λ x. rgb (map_pixel memory.entry.now map ((8 * (first + t) + x) % map.width) y)) 8 }
+            { map.tile_row(memory, first + t, y) },
+        )
+    }
+
+    // The line.
+    pub fn render(self, memory: &Memory) -> [Rgb15; DISPLAY_WIDTH]
+        requires { Scrolled self }
+        ensures { result ≡ tab (λ column. rgb (regular_color memory.now.vram memory.now.palette
+            self.control self.hofs self.vofs column self.line)) 240 }
+    {
+        let tiles = self.tiles(memory);
+        let columns = tiles.as_flattened();
+        let start_tile_x = self.hofs % TILE_SIDE;
+        array::from_fn(|column| columns[column + start_tile_x])
+    }
 }

@@ -1,7 +1,6 @@
 -- Points of affine backgrounds and sprites, on lifted numbers. No contract cites this file. Assumes nothing.
 use mathlib.Core.Path.{◌≡◌, refl, ap, ap₂, ◌∙◌}
-use Prim.Native.Nat.{ℕ, zero, suc, ◌+◌, ◌-◌, ◌*◌, ◌/◌, ◌%◌, ◌^◌, ◌≤◌, ◌<◌}
-use native.Mathlib.Nat.{mul-le-mul}
+use Prim.Native.Nat.{ℕ, zero, suc, ◌+◌, ◌-◌, ◌*◌, ◌/◌, ◌%◌, ◌^◌, ◌<◌}
 use native.Mathlib.Omega.{arith}
 use lib.IntN.{ℤ, pos, sub_ℕ, ◌+ℤ◌, ◌*ℤ◌}
 use Rattle.signed.specs.Signed.{down256}
@@ -33,13 +32,6 @@ point_sides (suc zero) h = (omega arith, refl)
 point_sides (suc (suc zero)) h = (omega arith, refl)
 point_sides (suc (suc (suc zero))) h = (omega arith, refl)
 point_sides (suc (suc (suc (suc n)))) h = omega arith
-
--- What the columns before add, lifted, is below 2^24.
-pub column_bound : (column b : ℕ) → column < 240 → b < 2 ^ 16 → column * b < 2 ^ 24
-column_bound column b column< b< =
-    let column≤ : column ≤ 239 = omega arith in
-    let b≤ : b ≤ 65535 = omega arith in
-    omega (arith, mul-le-mul column≤ b≤)
 
 -- The point of a sprite, by any bias: p and q are the matrix's numbers, x and y the offsets from the middle of its box.
 pub turn_cross : {p q x y : ℤ} (a b i j m k n bias : ℕ) →

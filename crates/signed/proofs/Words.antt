@@ -54,3 +54,11 @@ word32-signed32 w w< = go (view w (2 ^ 31))
 -- A word is the word of the number that it reads as.
 pub word32_is : (w : ℕ) (z : ℤ) → w < 2 ^ 32 → signed32 w ≡ z → w ≡ word32 z
 word32_is w z w< e = sym (word32-signed32 w w<) ∙ ap word32 e
+
+-- The word that is left of a lifted reference number, by a difference that wraps.
+pub signed32_dropped : (r : ℕ) → r < 2 ^ 29 → signed32 ((r + (2 ^ 32 - 2 ^ 28)) % 2 ^ 32) ≡ sub_ℕ r (2 ^ 28)
+signed32_dropped r r< = go (view r (2 ^ 28))
+  where
+    go : {z : ℤ} → View r (2 ^ 28) z → signed32 ((r + (2 ^ 32 - 2 ^ 28)) % 2 ^ 32) ≡ sub_ℕ r (2 ^ 28)
+    go (up k p) = signed32-subℕ-low _ r (2 ^ 28) (omega arith) (omega arith)
+    go (down k p) = signed32-subℕ-high _ r (2 ^ 28) (omega arith) (omega arith)

@@ -17,14 +17,11 @@ const LOWEST: i32 = -0x1000_0000;
 
 const LIMIT: i32 = 0x1000_0000;
 
-// The word of LOWEST.
-const LOWEST_WORD: u32 = 0xf000_0000;
-
 // Whether a draw or a step takes z as a reference number.
 pub fn in_range(z: i32) -> bool
     ensures { result ≡ in_range z }
 {
-    (LOWEST <= z) & (z < LIMIT)
+    (LOWEST..LIMIT).contains(&z)
 }
 
 // The reference number z plus 2^28.
@@ -39,7 +36,7 @@ pub fn lift_i32(z: i32) -> u32
 pub fn lift_half(h: u16) -> u32
     ensures { (signed16 h ≡ sub_ℕ result (2 ^ 15)) × (result < 2 ^ 16) }
 {
-    (h as u32 + HALF_BIAS) % 0x1_0000
+    (u32::from(h) + HALF_BIAS) % 0x1_0000
 }
 
 // The word of the reference number that is r less 2^28.
@@ -47,9 +44,5 @@ pub fn drop_word(r: u32) -> u32
     requires { r < 2 ^ 29 }
     ensures { (signed32 result ≡ sub_ℕ r (2 ^ 28)) × (result ≡ word32 (sub_ℕ r (2 ^ 28))) }
 {
-    if r < REFERENCE_BIAS {
-        r + LOWEST_WORD
-    } else {
-        r - REFERENCE_BIAS
-    }
+    r.wrapping_sub(REFERENCE_BIAS)
 }

@@ -1,16 +1,11 @@
 -- bg_points::transform_bg_point meets its contract: the sum is that of point_is, and no column's product reaches 2^24.
 -- Assumes nothing.
-use mathlib.Core.Path.{refl}
-use Rattle.signed.proofs.Point.{point_is, column_bound}
-use Prim.Native.Nat.{◌*◌, ◌^◌, ◌<◌}
-use native.Mathlib.Omega.{arith}
+use mathlib.Core.Path.{sym, ◌∙◌}
+use mir.Facts.{to_z-of_z}
+use Rattle.bg_points.proofs.Points.{transform_is}
 use Rattle.bg_points.proofs.transform_bg_point.Goals as goal
 
 pub returns : goal.returns
-returns c = rw c.down_256.ensures (point_is _ _ _ refl refl c.requires.column<)
-
-product : (c : goal.Start) → c.args.screen_x * c.args.step < 2 ^ 24
-product c = column_bound _ _ c.requires.column< c.requires.step<
-
-pub overflow_sub-reference : goal.overflow_sub-reference
-overflow_sub-reference c = omega (arith, product c)
+returns c =
+    let lifted = sym (to_z-of_z c.ranges.reference) ∙ c.lift_i32-reference.ensures.0 in
+    transform_is _ _ _ _ _ lifted c.lift_half-step.ensures.0 c.requires.1 c.down_256.ensures

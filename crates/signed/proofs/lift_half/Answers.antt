@@ -5,4 +5,4 @@ use Rattle.signed.proofs.Words.{signed16_lifted}
 use Rattle.signed.proofs.lift_half.Goals as goal
 
 pub returns : goal.returns
-returns c = (signed16_lifted c.args.h (omega arith), omega arith)
+returns c = rw c.from.ensures (signed16_lifted c.args.h (omega arith), omega arith)
