@@ -1,7 +1,7 @@
 -- Laws of the pixels that a sprite puts. No contract cites this file. Assumes nothing.
 use Prim.Native.Nat.{ℕ, ◌+◌, ◌-◌, ◌≤◌, ◌<◌}
 use native.Mathlib.Omega.{arith}
-use mathlib.Core.Path.{◌≡◌, refl, sym, ◌∙◌}
+use mathlib.Core.Path.{◌≡◌, refl, sym, ap, subst, ◌∙◌}
 use mathlib.Core.Bool.{Bool, true, false, cond, ◌||◌, or-true}
 use mathlib.Core.List.{List}
 use mathlib.Core.Logic.{◌⊎◌, inl, inr}
@@ -22,7 +22,7 @@ use Rattle.obj_sprites.specs.declared.attrs.ObjAttrs.{ObjAttrs}
 use Rattle.obj_sprites.specs.declared.attrs.ObjMode.{ObjMode}
 use Rattle.bits.proofs.Booleans.{cond_both}
 use Rattle.obj.specs.Put.{passed_over, shown_by, windowed, written, put_pixel}
-use Rattle.obj.specs.Code.{BoxColumns, put_column, put_row, box_pixel, put_box, Each, Walked, WalkedBack, PassedOver}
+use Rattle.obj.specs.Code.{mode_of, put_column, put_row, box_pixel, put_box, Each, Walked, WalkedBack, PassedOver}
 
 -- ---- one pixel
 
@@ -55,20 +55,24 @@ pub put_pixel-marked : (priority color : ℕ) (e : Entry)
 unfolding put_pixel passed_over written
 put_pixel-marked priority color e = refl
 
-module _ (priority color : ℕ) (entries : List ℕ) (column : ℕ) {e f : Entry} {clear : Bool} {m : List ℕ}
-    (e-is : e ≡ cell_at entry_cells entries column) (clear-is : clear ≡ is_transparent color) where
-  -- An entry that was read, and then kept or put as it shows the pixel.
-  pub put_column_shown : (alpha : Bool) → f ≡ shown_by alpha priority color e
-      → m
-      ≡ put_cell entry_cells entries column (cond (leb e.priority priority || clear) (cell_at entry_cells entries column) f)
-      → m ≡ put_column (cond alpha ObjMode.Sfx ObjMode.Normal) priority color entries column
-  put_column_shown alpha f-is m-is = cc (put_pixel_shown alpha priority color (cell_at entry_cells entries column))
+-- What a pixel is put as, by the tests of its sprite's kind.
+pub pixel_marked : (alpha : Bool) (priority color : ℕ) (e : Entry) {clear : Bool} {f : Entry}
+    → clear ≡ is_transparent color → f ≡ windowed e → cond clear e f ≡ put_pixel (mode_of true alpha) priority color e
+pixel_marked alpha priority color e clear-is f-is = rw (clear-is, f-is) (put_pixel-marked priority color e)
 
-  -- An entry that was read, and then kept or put with the window mark.
-  pub put_column-marked : f ≡ windowed e
-      → m ≡ put_cell entry_cells entries column (cond clear (cell_at entry_cells entries column) f)
-      → m ≡ put_column ObjMode.Window priority color entries column
-  put_column-marked f-is m-is = cc (put_pixel-marked priority color (cell_at entry_cells entries column))
+pub pixel_shown : (alpha : Bool) (priority color : ℕ) (e : Entry) {clear : Bool} {f : Entry}
+    → clear ≡ is_transparent color → f ≡ shown_by alpha priority color e
+    → cond (leb e.priority priority || clear) e f ≡ put_pixel (mode_of false alpha) priority color e
+pixel_shown alpha priority color e clear-is f-is = rw (clear-is, f-is) (put_pixel_shown alpha priority color e)
+
+-- An entry that was read, and then kept or put.
+pub put_column_is : (mode : ObjMode) (priority color : ℕ) (entries : List ℕ) (column : ℕ) {e : Entry}
+    (f : Entry) (kept : Bool) {m : List ℕ}
+    → e ≡ cell_at entry_cells entries column → cond kept e f ≡ put_pixel mode priority color e
+    → m ≡ put_cell entry_cells entries column (cond kept (cell_at entry_cells entries column) f)
+    → m ≡ put_column mode priority color entries column
+put_column_is mode priority color entries column f kept e-is put_is m-is =
+    m-is ∙ ap (put_cell entry_cells entries column) (subst (λ e. cond kept e f ≡ put_pixel mode priority color e) e-is put_is)
 
 -- ---- a row
 
@@ -93,10 +97,10 @@ pub record PutUpTo (mode : ObjMode) (priority : ℕ) (colors : List Rgb15) (left
   pub part : PassedPart entry_cells (box_pixel mode priority colors left) 240 start end entries k l
 
 module _ {mode : ObjMode} {priority : ℕ} {colors : List Rgb15} {left start end : ℕ} {entries : List ℕ} where
-  pub put_up_to_none : BoxColumns entries left start end → AllBytes entries
+  pub put_up_to_none : length entries ≡ 960 → start ≤ 240 → AllBytes entries
       → PutUpTo mode priority colors left start end entries start entries
-  put_up_to_none box bytes =
-      record { part = passed-from entry_cells (omega arith) (omega arith) (λ k k<. exact-entry_cells entries bytes k) }
+  put_up_to_none size start≤ bytes =
+      record { part = passed-from entry_cells size start≤ (λ k k<. exact-entry_cells entries bytes k) }
 
   pub put_up_to_more : {k : ℕ} {l m : List ℕ} → PutUpTo mode priority colors left start end entries k l
       → k < end → end ≤ 240 → m ≡ put_column mode priority (get_or colors (k + 272 - left) (rgb 0)).0 l k

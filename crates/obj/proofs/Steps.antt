@@ -8,19 +8,16 @@ use mathlib.Core.Bool.{true, false}
 use mathlib.Core.List.{List}
 use lib.ListN.{length}
 use Rattle.rgb15.specs.Colour.{transparent}
-use Rattle.rows.specs.Cells.{map_row}
 use Rattle.rows.proofs.Cells.{map_row-all, map_row_cong}
 use Rattle.rows.proofs.Passed.{Composed, composed_none, composed_more, composed-all}
 use Rattle.memory.specs.Memory.{Memory}
-use Rattle.regs.specs.Registers.{dispcnt}
-use Rattle.regs.specs.Display.{DisplayControlOf, obj_mapping}
-use Rattle.regs.specs.declared.DisplayControl.{DisplayControl}
 use Rattle.regs.specs.declared.ObjMapping.{ObjMapping}
 use Rattle.regs.specs.declared.reading.Reading.{Reading}
 use Rattle.obj_sprites.specs.Oam.{matrix}
 use Rattle.obj_sprites.specs.Attrs.{sprite}
 use Rattle.obj_sprites.specs.Color.{normal_color, affine_obj_color}
-use Rattle.obj_sprites.specs.Tiles.{tiles_start}
+use Rattle.obj_sprites.specs.Code.{ViewOf, source_of}
+use Rattle.obj_sprites.specs.declared.view.View.{View}
 use Rattle.obj_sprites.specs.Sprite.{Source, source, drawn, typed_color, sprite_color}
 use Rattle.obj_entries.specs.Entry.{entry_cells}
 use Rattle.obj.specs.Put.{sprite_step, entry_up_to, put_sprites}
@@ -31,25 +28,26 @@ use Rattle.obj_entries.specs.declared.Entry.{Entry}
 use Rattle.obj_entries.proofs.Entries.{AllBytes, exact-entry_cells}
 use Rattle.obj.proofs.Pixels.{put_pixel-transparent, put_row_none}
 
--- The colours of a sprite, by its type.
-module _ (reading : Reading) (mapping : ObjMapping) (vram palette oam : List ℕ) (s : ObjAttrs) (line : ℕ) where
-  pub typed_color_hidden : (type : ObjType) → type ≡ ObjType.Hidden
-      → typed_color type reading mapping vram palette oam s line ≡ λ _. transparent
+-- The colours of a sprite, by its type, as it was read.
+module _ (reading : Reading) (mapping : ObjMapping) (vram palette oam : List ℕ) (s : ObjAttrs) (line : ℕ)
+    {read : ObjType} (read-is : read ≡ s.objtype) where
+  pub typed_color_hidden : read ≡ ObjType.Hidden
+      → typed_color s.objtype reading mapping vram palette oam s line ≡ λ _. transparent
   unfolding typed_color
-  typed_color_hidden type type_is = rw type_is
+  typed_color_hidden type_is = rw (sym read-is ∙ type_is)
 
-  pub typed_color_normal : (type : ObjType) → type ≡ ObjType.Normal
-      → typed_color type reading mapping vram palette oam s line ≡ normal_color reading mapping vram palette s line
+  pub typed_color_normal : read ≡ ObjType.Normal
+      → typed_color s.objtype reading mapping vram palette oam s line ≡ normal_color reading mapping vram palette s line
   unfolding typed_color
-  typed_color_normal type type_is = rw type_is
+  typed_color_normal type_is = rw (sym read-is ∙ type_is)
 
   -- Both affine types.
-  pub typed_color_affine : (type : ObjType) → (type ≡ ObjType.Affine) ⊎ (type ≡ ObjType.AffineDoubleSize)
-      → typed_color type reading mapping vram palette oam s line
+  pub typed_color_affine : (read ≡ ObjType.Affine) ⊎ (read ≡ ObjType.AffineDoubleSize)
+      → typed_color s.objtype reading mapping vram palette oam s line
       ≡ affine_obj_color reading mapping vram palette (matrix oam s.affine_index) s line
   unfolding typed_color
-  typed_color_affine type (inl type_is) = rw type_is
-  typed_color_affine type (inr type_is) = rw type_is
+  typed_color_affine (inl type_is) = rw (sym read-is ∙ type_is)
+  typed_color_affine (inr type_is) = rw (sym read-is ∙ type_is)
 
 module _ (reading : Reading) (o : Source) (line n : ℕ) where
   -- A sprite that is not drawn changes nothing.
@@ -102,14 +100,10 @@ module _ (reading : Reading) (o : Source) (line : ℕ) where
             composed_more entry_cells (sprite_step reading o line n) p.composed n< put_is (λ k k< e. entry_up_to_more n k e);
       }
 
--- The source of the lent memory, by the display control that was read.
-pub source_is : (m : Memory) {d : DisplayControl} {mapping : ObjMapping} {start : ℕ}
-    → DisplayControlOf (dispcnt m.registers) d
-    → mapping ≡ obj_mapping d.obj_character_vram_mapping → start ≡ tiles_start d.mode
-    → ◌≡◌ {A = Source}
-    (record { vram = m.vram; palette = m.palette; oam = m.oam; mapping = mapping; start = start })
-    (source m)
-source_is m read mapping_is start_is = cc
+-- The view of a line has the source of the lent memory.
+pub source_is : (m : Memory) {registers : List ℕ} {reading : Reading} {line : ℕ} {v : View}
+    → registers ≡ m.registers → ViewOf registers reading line v → source_of m v ≡ source m
+source_is m registers_is view = cc (registers_is, view.mapping_is, view.start_is)
 
 -- Where the pass ends: what it made of each column is the row after it.
 pub sprites-all : (reading : Reading) {o p : Source} (line : ℕ) {n : ℕ} {l₀ l : List ℕ} → SpritesUpTo reading o line l₀ n l

@@ -1,85 +1,21 @@
--- As code has it: what the steps of the pass ask, what they make of a row of entries, and what they pass by (01, "Sprites").
+-- As code has it: what the steps of the pass make of a row of entries, and what they pass by (01, "Sprites").
 -- No exported contract reaches this file. Assumes nothing.
-use Rattle.std.specs.Prelude.{ℕ, ◌+◌, ◌-◌, ◌%◌, ◌≤◌, ◌<◌, ◌≡◌, true, List, length, get_or}
+use Rattle.std.specs.Prelude.{ℕ, ◌+◌, ◌-◌, ◌≤◌, ◌<◌, ◌≡◌, Bool, true, cond, List, get_or}
 use Rattle.rgb15.specs.Colour.{rgb}
 use Rattle.rgb15.specs.declared.Rgb15.{Rgb15}
 use Rattle.rows.specs.Below.{between}
 use Rattle.rows.specs.Cells.{cell_at, put_cell, only, map_row}
-use Rattle.memory.specs.Sizes.{video_ram_size, palette_ram_size, oam_size, registers_size}
-use Rattle.regs.specs.declared.reading.Reading.{Reading}
-use Rattle.obj_sprites.specs.Attrs.{Decoded}
-use Rattle.obj_sprites.specs.Place.{on_line}
-use Rattle.obj_entries.specs.Entry.{entries_size, entry_cells}
+use Rattle.obj_entries.specs.Entry.{entry_cells}
 use Rattle.obj_entries.specs.declared.Entry.{Entry}
 use Rattle.obj_sprites.specs.declared.attrs.ObjAttrs.{ObjAttrs}
 use Rattle.obj_sprites.specs.declared.attrs.ObjMode.{ObjMode}
-use Rattle.obj_sprites.specs.declared.attrs.ObjType.{ObjType}
 use Rattle.obj.specs.Put.{passed_over, put_pixel}
 
--- ---- what is asked
-
--- Columns of the screen from start up to end, and a row of entries.
-pub record Columns (entries : List ℕ) (start end : ℕ) : Type 0 where
-  pub entries_is : length entries ≡ entries_size
-  pub start≤ : start ≤ end
-  pub end≤ : end ≤ 240
-
--- Columns that a box has, of whose 128 colours the first is that of column left less 272.
-pub record BoxColumns (entries : List ℕ) (left start end : ℕ) : Type 0 where
-  pub columns : Columns entries start end
-  pub left≤ : left ≤ start + 272
-  pub right≤ : end + 272 ≤ left + 128
-
--- What a sprite's pixels are read from, and put in, has its length.
-pub record ObjLengths (entries vram palette : List ℕ) : Type 0 where
-  pub entries_is : length entries ≡ entries_size
-  pub vram_is : length vram ≡ video_ram_size
-  pub palette_is : length palette ≡ palette_ram_size
-
--- A sprite whose box holds a line of the screen.
-pub record OnLine (reading : Reading) (s : ObjAttrs) (line : ℕ) : Type 0 where
-  pub line< : line < 160
-  pub on : on_line reading s line ≡ true
-
--- A normal sprite that has pixels on a line.
-pub record NormalReady (entries vram palette : List ℕ) (reading : Reading) (s : ObjAttrs) (line : ℕ) : Type 0 where
-  pub lengths : ObjLengths entries vram palette
-  pub decoded : Decoded s
-  pub whole : s.width % 8 ≡ 0
-  pub type_is : s.objtype ≡ ObjType.Normal
-  pub on_line : OnLine reading s line
-
--- An affine one.
-pub record AffineReady (entries vram palette oam : List ℕ) (reading : Reading) (s : ObjAttrs) (line : ℕ) : Type 0 where
-  pub lengths : ObjLengths entries vram palette
-  pub oam_is : length oam ≡ oam_size
-  pub decoded : Decoded s
-  pub on_line : OnLine reading s line
-
--- One of any type.
-pub record ObjReady (entries vram palette oam : List ℕ) (reading : Reading) (s : ObjAttrs) (line : ℕ) : Type 0 where
-  pub lengths : ObjLengths entries vram palette
-  pub oam_is : length oam ≡ oam_size
-  pub decoded : Decoded s
-  pub whole : s.width % 8 ≡ 0
-  pub on_line : OnLine reading s line
-
--- A sprite of OAM, drawn on the line or not; sprite tiles start at a whole tile.
-pub record PutReady (entries vram palette oam : List ℕ) (start line obj : ℕ) : Type 0 where
-  pub lengths : ObjLengths entries vram palette
-  pub oam_is : length oam ≡ oam_size
-  pub whole : start % 64 ≡ 0
-  pub line< : line < 160
-  pub obj< : obj < 128
-
--- What the sprites of a line are read from, and put in.
-pub record ObjsReady (entries vram palette oam registers : List ℕ) (line : ℕ) : Type 0 where
-  pub lengths : ObjLengths entries vram palette
-  pub oam_is : length oam ≡ oam_size
-  pub registers_is : length registers ≡ registers_size
-  pub line< : line < 160
-
 -- ---- what a row becomes
+
+-- The mode of the pixels that are put: those of a window sprite, or of a visible one by the semi-transparent mark.
+abbrev pub mode_of : Bool → Bool → ObjMode
+mode_of window alpha = cond window ObjMode.Window (cond alpha ObjMode.Sfx ObjMode.Normal)
 
 -- The row with a pixel put in the entry of a column.
 abbrev pub put_column : ObjMode → ℕ → ℕ → List ℕ → ℕ → List ℕ

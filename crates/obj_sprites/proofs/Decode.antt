@@ -77,6 +77,15 @@ size_is size shape small =
       height≤ = omega (arith, ap (λ r. r.1) is, bounds.1);
     }
 
+-- A sprite is at most 64 lines high.
+pub height_bound : (a : Attributes) → (obj_attrs a).height ≤ 64
+unfolding obj_attrs
+height_bound a =
+    let size = bits 15 14 a.second in
+    let shape = bits 15 14 a.first in
+    (size_fits size shape (omega arith, omega arith)).1
+
+-- A sprite's rows are whole tiles.
 pub width_whole : (a : Attributes) {s : ObjAttrs} → s ≡ obj_attrs a → s.width % 8 ≡ 0
 unfolding obj_attrs
 width_whole a s-is =

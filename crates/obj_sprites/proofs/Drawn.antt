@@ -1,7 +1,7 @@
 -- Laws of which sprites are drawn on a line. No contract cites this file. Assumes nothing.
 use Prim.Native.Nat.{ℕ, ◌+◌, ◌*◌, ◌/◌, ◌%◌, ◌≤◌}
 use native.Mathlib.Omega.{arith}
-use mathlib.Core.Path.{◌≡◌, refl, sym, ap₂, ◌∙◌}
+use mathlib.Core.Path.{◌≡◌, refl, sym, ap, ap₂, ◌∙◌}
 use mathlib.Core.Bool.{Bool, true, false, cond, ◌&&◌}
 use lib.Dec.{leb, ltb}
 use lib.IntN.{ℤ, pos, negsuc, sub_ℕ}
@@ -10,11 +10,14 @@ use Rattle.bits.proofs.Booleans.{and_both, cond_both, leb_same}
 use Rattle.signed.specs.Signed.{within}
 use Rattle.regs.specs.declared.ObjMapping.{ObjMapping}
 use Rattle.regs.specs.declared.reading.Reading.{Reading}
+use Rattle.obj_sprites.specs.Oam.{Attributes}
+use Rattle.obj_sprites.specs.Attrs.{obj_attrs}
 use Rattle.obj_sprites.specs.Place.{box_height, top, below, on_line}
 use Rattle.obj_sprites.specs.Tiles.{OVRAM, tiles_start, ignores_lowest_bit, tile_number, tile_base}
 use Rattle.obj_sprites.specs.Sprite.{is_shown, is_permitted, drawn}
 use Rattle.obj_sprites.specs.Code.{is_near}
 use Rattle.obj_sprites.specs.declared.attrs.ObjAttrs.{ObjAttrs}
+use Rattle.obj_sprites.proofs.Decode.{height_bound}
 use Rattle.obj_sprites.proofs.Places.{boxed_bound, below_is}
 
 -- Sprite tiles start at a whole tile of either format.
@@ -59,14 +62,15 @@ module _ (reading : Reading) (mapping : ObjMapping) (start : ℕ) (s : ObjAttrs)
   drawn-on_line e = (and_both (is_shown s.objtype && is_permitted s.objmode) (on_line reading s line) (drawn_box e)).1
 
   -- A sprite is drawn on no line but those that it is near: no box is higher than 128 lines.
-  pub drawn_far : s.height ≤ 64 → is_near reading s line ≡ false → false ≡ drawn reading mapping start s line
+  pub drawn_far : (a : Attributes) → s ≡ obj_attrs a → is_near reading s line ≡ false → false ≡ drawn reading mapping start s line
   unfolding is_near on_line
-  drawn_far height≤ far = go (drawn reading mapping start s line) refl
+  drawn_far a s-is far = go (drawn reading mapping start s line) refl
     where
       go : (b : Bool) → drawn reading mapping start s line ≡ b → false ≡ b
       go true e =
           let shown = is_shown s.objtype in
           let on = and_both (shown && is_permitted s.objmode) (on_line reading s line) (drawn_box e) in
+          let height≤ : s.height ≤ 64 = omega (arith, ap (λ (s : ObjAttrs). s.height) s-is, height_bound a) in
           let near = within_wider (below reading s line) (boxed_bound s.objtype s.height height≤) on.1 in
           sym far ∙ ap₂ ◌&&◌ (and_both shown (is_permitted s.objmode) on.0).0 near
       go false e = refl

@@ -57,6 +57,16 @@ boxed_bound ObjType.Affine side side≤ = omega arith
 boxed_bound ObjType.Hidden side side≤ = omega arith
 boxed_bound ObjType.AffineDoubleSize side side≤ = omega arith
 
+-- Of the screen's columns a box covers those from its first up to its end.
+pub between-within : (l width column : ℕ) {start end : ℕ} → column < 240 → start ≡ l - 272 → end ≡ min 240 (l + width - 272)
+    → between start end column ≡ within (sub_ℕ (column + 272) l) width
+unfolding between
+between-within l width column {start} {end} column< start_is end_is =
+    ap₂ ◌&&◌
+    (leb_same start column l (column + 272) (λ h. omega arith) (λ h. omega arith))
+    (leb_same (suc column) end (suc (column + 272)) (l + width) (λ h. omega arith) (λ h. omega arith))
+    ∙ sym (within-subℕ (column + 272) l width)
+
 module _ (reading : Reading) (s : ObjAttrs) where
   module _ (l : ℕ) (left_is : left reading s ≡ sub_ℕ l 272) where
     pub across_is : (column : ℕ) → across reading s column ≡ sub_ℕ (column + 272) l
@@ -66,16 +76,12 @@ module _ (reading : Reading) (s : ObjAttrs) where
     pub across_above : (column : ℕ) → l ≤ column + 272 → across reading s column ≡ pos (column + 272 - l)
     across_above column h = across_is column ∙ subℕ-above (column + 272) l h
 
-    -- Of the screen's columns a box covers those from its first up to its end.
+    -- So by the sprite's own place.
     pub across-between : (width column : ℕ) {start end : ℕ} → column < 240
         → start ≡ l - 272 → end ≡ min 240 (l + width - 272)
         → between start end column ≡ within (across reading s column) width
-    unfolding between
-    across-between width column {start} {end} column< start_is end_is =
-        ap₂ ◌&&◌
-        (leb_same start column l (column + 272) (λ h. omega arith) (λ h. omega arith))
-        (leb_same (suc column) end (suc (column + 272)) (l + width) (λ h. omega arith) (λ h. omega arith))
-        ∙ sym (ap (λ z. within z width) (across_is column) ∙ within-subℕ (column + 272) l width)
+    across-between width column column< start_is end_is =
+        between-within l width column column< start_is end_is ∙ sym (ap (λ z. within z width) (across_is column))
 
   module _ (t : ℕ) (top_is : top reading s ≡ sub_ℕ t 96) where
     pub below_is : (line : ℕ) → below reading s line ≡ sub_ℕ (line + 96) t

@@ -1,5 +1,5 @@
 -- A sprite decoded from its three halfwords (01, "Sprites"; GBATEK, "LCD OBJ - OAM Attributes"). Assumes nothing.
-use Rattle.std.specs.Prelude.{ℕ, ◌≤◌, List, [], ◌∷◌, get_or}
+use Rattle.std.specs.Prelude.{ℕ, List, [], ◌∷◌, get_or}
 use Rattle.bits.specs.Bits.{bits, bit}
 use Rattle.regs.specs.Background.{tile_format}
 use Rattle.obj_sprites.specs.Oam.{Attributes, attributes}
@@ -39,14 +39,3 @@ obj_attrs a =
 -- Sprite n of OAM.
 abbrev pub sprite : List ℕ → ℕ → ObjAttrs
 sprite oam n = obj_attrs (attributes oam n)
-
--- A sprite's numbers lie in the ranges of their bits.
-pub record Decoded (s : ObjAttrs) : Type 0 where
-  pub y≤ : s.y ≤ 255
-  pub x≤ : s.x ≤ 511
-  pub affine≤ : s.affine_index ≤ 31
-  pub width≤ : s.width ≤ 64
-  pub height≤ : s.height ≤ 64
-  pub tile≤ : s.tile ≤ 1023
-  pub priority≤ : s.priority ≤ 3
-  pub bank≤ : s.bank ≤ 15

@@ -1,17 +1,24 @@
 -- As code has it: a sprite's two sides, looked up at once; where its tiles start, worked out once for many pixels; which
 -- sprites are ruled out before their size is looked up; and what is asked (01, "Sprites").
 -- No exported contract reaches this file. Assumes nothing.
-use Rattle.std.specs.Prelude.{ℕ, ◌%◌, ◌≤◌, ◌<◌, ◌≡◌, Bool, ◌&&◌}
+use Rattle.std.specs.Prelude.{ℕ, ◌≤◌, ◌≡◌, Bool, true, ◌&&◌, List}
 use Rattle.signed.specs.Signed.{within}
-use Rattle.regs.specs.declared.ObjMapping.{ObjMapping}
+use Rattle.memory.specs.Memory.{Memory}
+use Rattle.memory.specs.Palette.{PALRAM_OFS_FG}
+use Rattle.memory.specs.Tiles.{palette_bank}
+use Rattle.tiles.specs.Code.{TileColors}
+use Rattle.tiles.specs.declared.Tile.{Tile}
+use Rattle.regs.specs.Registers.{dispcnt}
+use Rattle.regs.specs.Display.{mode, obj_character_vram_mapping, obj_mapping}
 use Rattle.regs.specs.declared.reading.Reading.{Reading}
 use Rattle.obj_sprites.specs.Size.{obj_width, obj_height}
-use Rattle.obj_sprites.specs.Attrs.{Decoded}
-use Rattle.obj_sprites.specs.Place.{below}
-use Rattle.obj_sprites.specs.Tiles.{tile_base}
-use Rattle.obj_sprites.specs.Sprite.{is_shown}
+use Rattle.obj_sprites.specs.Place.{below, on_line}
+use Rattle.obj_sprites.specs.Tiles.{tiles_start, tile_at}
+use Rattle.obj_sprites.specs.Sprite.{Source, is_shown}
 use Rattle.obj_sprites.specs.declared.attrs.ObjAttrs.{ObjAttrs}
 use Rattle.obj_sprites.specs.declared.attrs.Size.{Size}
+use Rattle.obj_sprites.specs.declared.sprite.Sprite.{Sprite}
+use Rattle.obj_sprites.specs.declared.view.View.{View}
 
 -- A width and a height are those of a size and a shape.
 pub record SizeOf (size shape : ℕ) (r : Size) : Type 0 where
@@ -20,23 +27,27 @@ pub record SizeOf (size shape : ℕ) (r : Size) : Type 0 where
   pub width≤ : r.0 ≤ 64
   pub height≤ : r.1 ≤ 64
 
--- A sprite's tiles start at base.
-pub record BaseOf (reading : Reading) (mapping : ObjMapping) (s : ObjAttrs) (base : ℕ) : Type 0 where
-  pub base_is : base ≡ tile_base reading mapping s
-  pub base≤ : base ≤ 98272
+-- What a line's sprites are read by.
+pub record ViewOf (registers : List ℕ) (reading : Reading) (line : ℕ) (v : View) : Type 0 where
+  pub reading_is : v.reading ≡ reading
+  pub line_is : v.line ≡ line
+  pub mapping_is : v.mapping ≡ obj_mapping (obj_character_vram_mapping (dispcnt registers))
+  pub start_is : v.tiles_start ≡ tiles_start (mode (dispcnt registers))
 
--- A pixel (x, y) of a sprite whose tiles start at base.
-pub record TexelReady (reading : Reading) (mapping : ObjMapping) (s : ObjAttrs) (base x y : ℕ) : Type 0 where
-  pub decoded : Decoded s
-  pub base_of : BaseOf reading mapping s base
-  pub x< : x < s.width
-  pub y< : y < s.height
+-- What the sprites of a view are drawn from.
+abbrev pub source_of : Memory → View → Source
+source_of m v = record { vram = m.vram; palette = m.palette; oam = m.oam; mapping = v.mapping; start = v.tiles_start }
 
--- A sprite on a line of the screen; sprite tiles start at a whole tile.
-pub record LineReady (s : ObjAttrs) (start line : ℕ) : Type 0 where
-  pub decoded : Decoded s
-  pub whole : start % 64 ≡ 0
-  pub line< : line < 160
+-- A sprite has the line of its view in its box.
+abbrev pub OnLine : Sprite → Type 0
+OnLine s = on_line s.view.reading s.attrs s.view.line ≡ true
+
+-- A tile of sprites holds pixel (x, y) of one.
+pub record TileOf (v : View) (s : ObjAttrs) (x y : ℕ) (t : Tile) : Type 0 where
+  pub addr_is : t.addr ≡ tile_at v.reading v.mapping s x y
+  pub format_is : t.format ≡ s.format
+  pub bank_is : t.bank ≡ palette_bank s.format s.bank
+  pub colors : TileColors PALRAM_OFS_FG t
 
 -- Whether a line may be in the sprite's box, by its type and its top alone: no box is higher than 128 lines.
 unfoldable pub is_near : Reading → ObjAttrs → ℕ → Bool

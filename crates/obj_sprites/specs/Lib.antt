@@ -1,6 +1,8 @@
 -- What sprites and their pixels are. Assumes nothing.
 pub mod Oam
 pub mod Size
+pub mod Fields
+pub mod Inside
 pub mod Attrs
 pub mod Place
 pub mod Tiles

@@ -3,17 +3,18 @@
 ghost use Rattle.std.specs.Prelude.{◌≡◌, true, ◌+◌, ◌^◌, ◌≤◌, ◌<◌, pos};
 ghost use Rattle.std.proofs.Math.IntN.{sub_ℕ};
 ghost use Rattle.signed.specs.Signed.{within};
-ghost use Rattle.memory.specs.Sizes.{video_ram_size};
+ghost use Rattle.bits.specs.Bits.{bits};
 ghost use Rattle.regs.specs.Background.{tile_format};
-ghost use Rattle.regs.specs.declared.reading.Reading.{Reading};
-ghost use Rattle.obj_sprites.specs.Attrs.{obj_mode, obj_type, obj_attrs, Decoded};
+ghost use Rattle.obj_sprites.specs.Attrs.{obj_mode, obj_type, obj_attrs};
 ghost use Rattle.obj_sprites.specs.Place.{boxed, box_width, box_height, left, top, below, on_line};
-ghost use Rattle.obj_sprites.specs.Tiles.{ignores_lowest_bit, tile_number, tile_row, tile_at};
+ghost use Rattle.obj_sprites.specs.Tiles.{ignores_lowest_bit, tile_number, tile_base, tile_row};
 ghost use Rattle.obj_sprites.specs.Sprite.{is_shown, is_permitted, drawn};
-ghost use Rattle.obj_sprites.specs.Code.{SizeOf, BaseOf, TexelReady, LineReady, is_near};
+ghost use Rattle.obj_sprites.specs.Code.{SizeOf, is_near};
 
+use crate::View;
 use memory::{PixelFormat, TILE_SIZE};
 use regs::{ObjMapping, Reading};
+use std::marker::Model;
 
 // Where sprite tiles are counted from.
 pub const OVRAM: usize = 0x1_0000;
@@ -34,27 +35,29 @@ pub enum ObjMode {
     Forbidden,
 }
 
-impl ObjMode {
-    fn from(value: u16) -> ObjMode
-        requires { value < 4 }
-        ensures { result ≡ obj_mode value }
-    {
-        match value {
+// By the two low bits.
+impl From<u16> for ObjMode {
+    ghost from_gives = { λ value made. made ≡ obj_mode (bits 1 0 value) };
+
+    #[tactic(auto, unfolding(crate::specs::Attrs::obj_mode))]
+    fn from(value: u16) -> ObjMode {
+        match value % 4 {
             0 => ObjMode::Normal,
             1 => ObjMode::Sfx,
             2 => ObjMode::Window,
             _ => ObjMode::Forbidden,
         }
     }
+}
 
+impl ObjMode {
     // Whether sprites of this mode are drawn.
+    #[tactic(auto, unfolding(crate::specs::Sprite::is_permitted))]
     fn is_permitted(self) -> bool
         ensures { result ≡ is_permitted self }
     {
         match self {
-            ObjMode::Normal => true,
-            ObjMode::Sfx => true,
-            ObjMode::Window => true,
+            ObjMode::Normal | ObjMode::Sfx | ObjMode::Window => true,
             ObjMode::Forbidden => false,
         }
     }
@@ -68,40 +71,41 @@ pub enum ObjType {
     AffineDoubleSize,
 }
 
-impl ObjType {
-    fn from(value: u16) -> ObjType
-        requires { value < 4 }
-        ensures { result ≡ obj_type value }
-    {
-        match value {
+// By the two low bits.
+impl From<u16> for ObjType {
+    ghost from_gives = { λ value made. made ≡ obj_type (bits 1 0 value) };
+
+    #[tactic(auto, unfolding(crate::specs::Attrs::obj_type))]
+    fn from(value: u16) -> ObjType {
+        match value % 4 {
             0 => ObjType::Normal,
             1 => ObjType::Affine,
             2 => ObjType::Hidden,
             _ => ObjType::AffineDoubleSize,
         }
     }
+}
 
+impl ObjType {
     // Whether sprites of this type are drawn.
+    #[tactic(auto, unfolding(crate::specs::Sprite::is_shown))]
     fn is_shown(self) -> bool
         ensures { result ≡ is_shown self }
     {
         match self {
-            ObjType::Normal => true,
-            ObjType::Affine => true,
+            ObjType::Normal | ObjType::Affine | ObjType::AffineDoubleSize => true,
             ObjType::Hidden => false,
-            ObjType::AffineDoubleSize => true,
         }
     }
 
     // A side of the box.
+    #[tactic(auto, unfolding(crate::specs::Place::boxed))]
     fn boxed(self, side: usize) -> usize
         requires { side ≤ 64 }
         ensures { (result ≡ boxed self side) × (result ≤ 128) }
     {
         match self {
-            ObjType::Normal => side,
-            ObjType::Affine => side,
-            ObjType::Hidden => side,
+            ObjType::Normal | ObjType::Affine | ObjType::Hidden => side,
             ObjType::AffineDoubleSize => 2 * side,
         }
     }
@@ -121,7 +125,7 @@ const OBJ_SIZES: [[Size; 4]; 4] = [
 ];
 
 impl Size {
-    fn from(size: u16, shape: u16) -> Size
+    fn lookup(size: u16, shape: u16) -> Size
         requires { (size < 4) × (shape < 4) }
         ensures { SizeOf size shape result }
     {
@@ -166,15 +170,30 @@ pub struct ObjAttrs {
     pub bank: usize,
 }
 
+// A contract sees the same fields; that they lie in the ranges of their bits is known of each sprite.
+impl Model for ObjAttrs {
+    ghost use Rattle.obj_sprites.specs.Fields.{Fields, Decoded};
+
+    ghost Value = { Fields };
+
+    ghost use Rattle.obj_sprites.specs.Inside.{fields_of, inside_of};
+
+    ghost view = { fields_of };
+
+    ghost inverse = { inside_of };
+
+    ghost invariant = { λ a. Decoded (fields_of a) };
+}
+
 impl ObjAttrs {
-    pub(crate) fn from(attr0: u16, attr1: u16, attr2: u16) -> ObjAttrs
-        ensures { (result ≡ obj_attrs (record { first = attr0; second = attr1; third = attr2 })) × Decoded result }
+    pub(crate) fn new(attr0: u16, attr1: u16, attr2: u16) -> ObjAttrs
+        ensures { result ≡ obj_attrs (record { first = attr0; second = attr1; third = attr2 }) }
     {
-        let size = Size::from(attr1 / 0x4000 % 4, attr0 / 0x4000 % 4);
+        let size = Size::lookup(attr1 / 0x4000 % 4, attr0 / 0x4000 % 4);
         ObjAttrs {
             y: (attr0 % 0x100) as usize,
-            objtype: ObjType::from(attr0 / 0x100 % 4),
-            objmode: ObjMode::from(attr0 / 0x400 % 4),
+            objtype: ObjType::from(attr0 / 0x100),
+            objmode: ObjMode::from(attr0 / 0x400),
             format: tile_format(attr0 / 0x2000 % 2 == 1),
             x: (attr1 % 0x200) as usize,
             affine_index: (attr1 / 0x200 % 32) as usize,
@@ -189,58 +208,52 @@ impl ObjAttrs {
     }
 
     // The column of the box's left edge, plus 272.
-    pub fn left(self, reading: Reading) -> usize
-        requires { Decoded self }
-        ensures { (left reading self ≡ sub_ℕ result 272) × (result ≤ 511) }
+    pub fn left(self, view: View) -> usize
+        ensures { (left view.reading self ≡ sub_ℕ result 272) × (result ≤ 511) }
     {
         (self.x + X_BIAS) % 512
     }
 
     // The line of the box's top, plus 96.
-    pub(crate) fn top(self, reading: Reading) -> usize
-        requires { Decoded self }
-        ensures { (top reading self ≡ sub_ℕ result 96) × (result ≤ 255) }
+    pub(crate) fn top(self, view: View) -> usize
+        ensures { (top view.reading self ≡ sub_ℕ result 96) × (result ≤ 255) }
     {
         (self.y + Y_BIAS) % 256
     }
 
     // The width of the box.
     pub fn box_width(self) -> usize
-        requires { Decoded self }
         ensures { (result ≡ box_width self) × (result ≤ 128) }
     {
-        let objtype = self.objtype;
-        objtype.boxed(self.width)
+        self.objtype.boxed(self.width)
     }
 
     // The height of the box.
     pub fn box_height(self) -> usize
-        requires { Decoded self }
         ensures { (result ≡ box_height self) × (result ≤ 128) }
     {
-        let objtype = self.objtype;
-        objtype.boxed(self.height)
+        self.objtype.boxed(self.height)
     }
 
     // The row of the box that a line is.
-    pub fn row(self, reading: Reading, line: usize) -> usize
-        requires { Decoded self × (line < 160) × (on_line reading self line ≡ true) }
-        ensures { (below reading self line ≡ pos result) × (result < box_height self) }
+    pub fn row(self, view: View) -> usize
+        requires { on_line view.reading self view.line ≡ true }
+        ensures { (below view.reading self view.line ≡ pos result) × (result < box_height self) }
     {
-        line + Y_BIAS - self.top(reading)
+        view.line + Y_BIAS - self.top(view)
     }
 
     // Whether the lowest bit of the tile number is ignored.
-    fn ignores_lowest_bit(self, reading: Reading, mapping: ObjMapping) -> bool
-        ensures { result ≡ ignores_lowest_bit reading mapping self.format }
+    #[tactic(auto, unfolding(crate::specs::Tiles::ignores_lowest_bit))]
+    fn ignores_lowest_bit(self, view: View) -> bool
+        ensures { result ≡ ignores_lowest_bit view.reading view.mapping self.format }
     {
-        match mapping {
+        match view.mapping {
             ObjMapping::OneDimension => false,
             ObjMapping::TwoDimension => {
-                let format = self.format;
-                match format {
+                match self.format {
                     PixelFormat::BPP4 => false,
-                    PixelFormat::BPP8 => match reading {
+                    PixelFormat::BPP8 => match view.reading {
                         Reading::R => false,
                         Reading::H => true,
                     },
@@ -250,11 +263,11 @@ impl ObjAttrs {
     }
 
     // The tile number as the reading counts it.
-    fn tile_number(self, reading: Reading, mapping: ObjMapping) -> usize
-        requires { Decoded self }
-        ensures { (result ≡ tile_number reading mapping self) × (result ≤ 1023) }
+    #[tactic(auto, unfolding(crate::specs::Tiles::tile_number))]
+    fn tile_number(self, view: View) -> usize
+        ensures { (result ≡ tile_number view.reading view.mapping self) × (result ≤ 1023) }
     {
-        if self.ignores_lowest_bit(reading, mapping) {
+        if self.ignores_lowest_bit(view) {
             2 * (self.tile / 2)
         } else {
             self.tile
@@ -262,23 +275,22 @@ impl ObjAttrs {
     }
 
     // Where the sprite's tiles start.
-    pub fn tile_base(self, reading: Reading, mapping: ObjMapping) -> usize
-        requires { Decoded self }
-        ensures { BaseOf reading mapping self result }
+    #[tactic(auto, unfolding(crate::specs::Tiles::tile_base))]
+    pub fn tile_base(self, view: View) -> usize
+        ensures { (result ≡ tile_base view.reading view.mapping self) × (result ≤ 98272) }
     {
-        OVRAM + TILE_SIZE * self.tile_number(reading, mapping)
+        OVRAM + TILE_SIZE * self.tile_number(view)
     }
 
     // How many tiles further the next row of tiles is.
-    fn tile_array_width(self, mapping: ObjMapping) -> usize
-        requires { Decoded self }
-        ensures { (result ≡ tile_row mapping self.format self.width) × (result ≤ 32) }
+    #[tactic(auto, unfolding(crate::specs::Tiles::tile_row))]
+    pub(crate) fn tile_array_width(self, view: View) -> usize
+        ensures { (result ≡ tile_row view.mapping self.format self.width) × (result ≤ 32) }
     {
-        match mapping {
+        match view.mapping {
             ObjMapping::OneDimension => self.width / 8,
             ObjMapping::TwoDimension => {
-                let format = self.format;
-                match format {
+                match self.format {
                     PixelFormat::BPP8 => 16,
                     PixelFormat::BPP4 => 32,
                 }
@@ -286,50 +298,25 @@ impl ObjAttrs {
         }
     }
 
-    // The address of the tile that holds pixel (x, y) of the sprite, whose tiles start at base.
-    pub fn tile_at(
-        self,
-        base: usize,
-        reading: Reading,
-        mapping: ObjMapping,
-        x: usize,
-        y: usize,
-    ) -> usize
-        requires { TexelReady reading mapping self base x y }
-        ensures { (result ≡ tile_at reading mapping self x y) × (result + 63 < video_ram_size) }
-    {
-        let format = self.format;
-        let tile_size = format.tile_size();
-        let row = self.tile_array_width(mapping);
-        base + tile_size * (x / 8 + row * (y / 8))
-    }
-
     // Whether a line may be in the sprite's box, by its type and its top. It is asked before a sprite is read with its size:
     // a constant table is built anew wherever it is read.
-    pub fn is_near(self, reading: Reading, line: usize) -> bool
-        requires { Decoded self × (line < 160) }
-        ensures { result ≡ is_near reading self line }
+    #[tactic(auto, using(crate::proofs::Drawn::near_is))]
+    pub fn is_near(self, view: View) -> bool
+        ensures { result ≡ is_near view.reading self view.line }
     {
-        let objtype = self.objtype;
-        objtype.is_shown() & is_inside(line + Y_BIAS, self.top(reading), BOX_MAX)
+        self.objtype.is_shown() & is_inside(view.line + Y_BIAS, self.top(view), BOX_MAX)
     }
 
     // Whether the sprite is drawn on a line. Sprite tiles start at an even number, so the lowest bit of the sprite's decides
     // nothing here, whether the reading counts it or not.
-    pub fn is_drawn(
-        self,
-        reading: Reading,
-        mapping: ObjMapping,
-        tiles_start: usize,
-        line: usize,
-    ) -> bool
-        requires { LineReady self tiles_start line }
-        ensures { result ≡ drawn reading mapping tiles_start self line }
+    #[tactic(auto, using(crate::proofs::Drawn::drawn_is))]
+    pub fn is_drawn(self, view: View) -> bool
+        ensures { result ≡ drawn view.reading view.mapping view.tiles_start self view.line }
     {
         let objtype = self.objtype;
         let objmode = self.objmode;
-        let on_line = is_inside(line + Y_BIAS, self.top(reading), self.box_height());
-        let has_tiles = tiles_start <= OVRAM + TILE_SIZE * self.tile;
+        let on_line = is_inside(view.line + Y_BIAS, self.top(view), self.box_height());
+        let has_tiles = view.tiles_start <= OVRAM + TILE_SIZE * self.tile;
         objtype.is_shown() & objmode.is_permitted() & on_line & has_tiles
     }
 }

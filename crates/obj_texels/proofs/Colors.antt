@@ -5,7 +5,7 @@ use mathlib.Core.Path.{◌≡◌, sym, ap₂, ◌∙◌}
 use mathlib.Core.Bool.{true, false}
 use mathlib.Core.List.{List}
 use lib.Dec.{ltb}
-use lib.IntN.{pos, sub_ℕ, ◌-ℤ◌}
+use lib.IntN.{pos, sub_ℕ, nat_abs, ◌-ℤ◌}
 use borrow.Author.Tests.{lt-ltb}
 use Rattle.rgb15.specs.Colour.{transparent}
 use Rattle.signed.specs.Signed.{within}
@@ -18,21 +18,21 @@ use Rattle.obj_sprites.specs.Place.{box_width, box_height, left, below}
 use Rattle.obj_sprites.specs.Tiles.{texel}
 use Rattle.obj_sprites.specs.Color.{normal_color, color_at, affine_obj_color}
 use Rattle.obj_texels.specs.Code.{box_point_color, TurnOf}
-use Rattle.obj_texels.specs.declared.affine.Turn.{Turn}
+use Rattle.obj_texels.specs.declared.turn.Turn.{Turn}
 use Rattle.obj_sprites.specs.declared.attrs.ObjAttrs.{ObjAttrs}
 use Rattle.obj_sprites.proofs.Places.{across_above, across-between}
 
 module _ (reading : Reading) (mapping : ObjMapping) (vram palette : List ℕ) (s : ObjAttrs) (line : ℕ) where
   module _ (l : ℕ) (left_is : left reading s ≡ sub_ℕ l 272) where
     -- A column of the box.
-    pub normal_color-inside : (row column : ℕ) {y : ℕ} → below reading s line ≡ pos row
-        → y ≡ flip s.v_flip s.height row → l ≤ column + 272 → column + 272 < l + s.width
+    pub normal_color-inside : (column : ℕ) {y : ℕ} → y ≡ flip s.v_flip s.height (nat_abs (below reading s line))
+        → l ≤ column + 272 → column + 272 < l + s.width
         → texel reading mapping vram palette s (flip s.h_flip s.width (column + 272 - l)) y
         ≡ normal_color reading mapping vram palette s line column
     unfolding normal_color within
-    normal_color-inside row column row_is y_is h u =
+    normal_color-inside column y_is h u =
         let inside : ltb (column + 272 - l) s.width ≡ true = lt-ltb (column + 272 - l) s.width (omega arith) in
-        rw (across_above reading s l left_is column h, row_is, inside, y_is)
+        rw (across_above reading s l left_is column h, inside, y_is)
 
     -- No other column has a pixel.
     pub normal_color_outside : {start end : ℕ} → start ≡ l - 272 → end ≡ min 240 (l + s.width - 272)

@@ -6,7 +6,7 @@ use mathlib.Core.Path.{◌≡◌, refl, ap, ◌∙◌}
 use mathlib.Core.Bool.{Bool, true, false, cond}
 use mathlib.Core.List.{List}
 use lib.ListN.{get_or, replicate, get_or-replicate}
-use lib.IntN.{pos, sub_ℕ, ◌-ℤ◌}
+use lib.IntN.{pos, sub_ℕ, nat_abs, ◌-ℤ◌}
 use borrow.Author.Tests.{lt-ltb, le-ltb}
 use Rattle.rgb15.specs.Colour.{rgb, transparent}
 use Rattle.rgb15.specs.declared.Rgb15.{Rgb15}
@@ -18,6 +18,7 @@ use Rattle.rows.proofs.Tab.{get_or-of-tab, tab_cong}
 use Rattle.memory.specs.Palette.{palette_color}
 use Rattle.memory.specs.Tiles.{palette_bank, tile_pixel}
 use Rattle.tiles.specs.Flip.{flip}
+use Rattle.tiles.specs.declared.Tile.{Tile}
 use Rattle.tiles.proofs.Rows.{flip_bound}
 use Rattle.regs.specs.declared.ObjMapping.{ObjMapping}
 use Rattle.regs.specs.declared.reading.Reading.{Reading}
@@ -27,7 +28,7 @@ use Rattle.obj_sprites.specs.Tiles.{tile_at, texel}
 use Rattle.obj_sprites.specs.Color.{normal_color, affine_obj_color}
 use Rattle.obj_sprites.specs.declared.attrs.ObjAttrs.{ObjAttrs}
 use Rattle.obj_texels.specs.Code.{row_texel, box_point_color, affine_texel, TurnOf}
-use Rattle.obj_texels.specs.declared.affine.Turn.{Turn}
+use Rattle.obj_texels.specs.declared.turn.Turn.{Turn}
 use Rattle.obj_texels.proofs.Colors.{normal_color-inside, affine_obj_color-inside}
 
 -- ---- the row of a tile
@@ -41,36 +42,41 @@ flip_tile false width tiles t k whole t< k< = omega arith
 
 module _ (reading : Reading) (mapping : ObjMapping) (vram palette : List ℕ) (s : ObjAttrs) (y : ℕ) where
   -- Pixel b of tile a.
-  texel_tile : (a b : ℕ) {addr bank : ℕ} → b < 8
-      → addr ≡ tile_at reading mapping s (8 * a) y
-      → bank ≡ palette_bank s.format s.bank
-      → palette_color palette 0x200 (tile_pixel vram addr b (y % 8) s.format) bank
+  texel_tile : (a b : ℕ) (tile : Tile) → b < 8
+      → tile.addr ≡ tile_at reading mapping s (8 * a) y
+      → tile.format ≡ s.format
+      → tile.bank ≡ palette_bank s.format s.bank
+      → palette_color palette 0x200 (tile_pixel vram tile.addr b (y % 8) tile.format) tile.bank
       ≡ texel reading mapping vram palette s (8 * a + b) y
   unfolding texel tile_at
-  texel_tile a b b< addr_is bank-is =
-      let tile : (8 * a + b) / 8 ≡ a = omega arith in
+  texel_tile a b tile b< addr_is format_is bank-is =
+      let place : (8 * a + b) / 8 ≡ a = omega arith in
       let first : 8 * a / 8 ≡ a = omega arith in
       let pixel : (8 * a + b) % 8 ≡ b = omega arith in
-      rw (addr_is, bank-is, tile, first, pixel)
+      rw (addr_is, format_is, bank-is, place, first, pixel)
 
   -- The row of tile t as shown.
-  pub row_shown : (t : ℕ) {tiles tile addr bank : ℕ} {r : List Rgb15} → s.width ≡ 8 * tiles → t < tiles
-      → tile ≡ flip s.h_flip tiles t
-      → addr ≡ tile_at reading mapping s (8 * tile) y
-      → bank ≡ palette_bank s.format s.bank
+  pub row_shown : (t : ℕ) {tiles n : ℕ} {flipped : Bool} (tile : Tile) {r : List Rgb15} → s.width ≡ 8 * tiles → t < tiles
+      → flipped ≡ s.h_flip
+      → n ≡ flip flipped tiles t
+      → tile.addr ≡ tile_at reading mapping s (8 * n) y
+      → tile.format ≡ s.format
+      → tile.bank ≡ palette_bank s.format s.bank
       → r
       ≡ tab
-      (λ k. rgb (palette_color palette 0x200 (tile_pixel vram addr (flip s.h_flip 8 k) (y % 8) s.format) bank))
+      (λ k. rgb (palette_color palette 0x200 (tile_pixel vram tile.addr (flip flipped 8 k) (y % 8) tile.format) tile.bank))
       8
       → r ≡ tab (λ k. rgb (texel reading mapping vram palette s (flip s.h_flip s.width (8 * t + k)) y)) 8
-  row_shown t {tiles} {tile} whole t< tile-is addr_is bank-is r-is =
+  row_shown t {tiles} {n} {flipped} tile whole t< flipped-is n-is addr_is format_is bank-is r-is =
       r-is
       ∙ tab_cong _ _ 8
       (λ k k<.
       ap rgb
-      (texel_tile tile (flip s.h_flip 8 k) (flip_bound s.h_flip 8 k k<) addr_is bank-is
+      (texel_tile n (flip flipped 8 k) tile (flip_bound flipped 8 k k<) addr_is format_is bank-is
       ∙ ap (λ x. texel reading mapping vram palette s x y)
-      (ap (λ n. 8 * n + flip s.h_flip 8 k) tile-is ∙ flip_tile s.h_flip s.width tiles t k whole t< k<)))
+      (ap (λ n. 8 * n + flip flipped 8 k) n-is
+      ∙ flip_tile flipped s.width tiles t k whole t< k<
+      ∙ ap (λ set. flip set s.width (8 * t + k)) flipped-is)))
 
 -- ---- a row of 128 columns
 
@@ -88,18 +94,17 @@ module _ (reading : Reading) (mapping : ObjMapping) (vram palette : List ℕ) (s
 -- A column of the box, by the row of colours.
 pub normal_color-row : (reading : Reading) (mapping : ObjMapping) (vram palette : List ℕ) (s : ObjAttrs) (line l : ℕ)
     → left reading s ≡ sub_ℕ l 272 → s.width ≤ 64
-    → (row column : ℕ) (colors : List Rgb15) {y : ℕ}
-    → below reading s line ≡ pos row
-    → y ≡ flip s.v_flip s.height row
+    → (column : ℕ) (colors : List Rgb15) {y : ℕ}
+    → y ≡ flip s.v_flip s.height (nat_abs (below reading s line))
     → colors ≡ tab (λ x. rgb (row_texel reading mapping vram palette s y x)) 128
     → l ≤ column + 272 → column + 272 < l + s.width
     → (get_or colors (column + 272 - l) (rgb 0)).0 ≡ normal_color reading mapping vram palette s line column
-normal_color-row reading mapping vram palette s line l left_is width≤ row column colors {y} row_is y_is colors-are h u =
+normal_color-row reading mapping vram palette s line l left_is width≤ column colors {y} y_is colors-are h u =
     ap (λ c. c.0)
     (get_or-of-tab
     (λ x. rgb (row_texel reading mapping vram palette s y x)) 128 (column + 272 - l) (rgb 0) colors-are (omega arith))
     ∙ row_texel-inside reading mapping vram palette s y (column + 272 - l) (omega arith)
-    ∙ normal_color-inside reading mapping vram palette s line l left_is row column row_is y_is h u
+    ∙ normal_color-inside reading mapping vram palette s line l left_is column y_is h u
 
 -- ---- the row of an affine sprite's box
 

@@ -9,8 +9,8 @@ use Rattle.signed.proofs.Point.{turn_cross}
 use Rattle.obj_sprites.specs.Oam.{Matrix}
 use Rattle.obj_sprites.specs.Place.{box_width}
 use Rattle.obj_sprites.specs.Color.{turn}
-use Rattle.obj_texels.specs.Code.{MatrixOf, point_at, StartOf, TurnOf}
-use Rattle.obj_texels.specs.declared.affine.AffineMatrix.{AffineMatrix}
+use Rattle.obj_texels.specs.Code.{point_at, StartOf, TurnOf}
+use Rattle.obj_texels.specs.declared.turn.Turn.{Turn}
 use Rattle.obj_sprites.specs.declared.attrs.ObjAttrs.{ObjAttrs}
 
 -- A matrix's number, 2^15 larger, times a place of the box.
@@ -48,29 +48,17 @@ turn_is a b m k j start i side p-is q-is iy-is s i≤ =
     ∙ add-subℕ-pos (n / 256) (2 ^ 16) (side / 2)
 
 -- A matrix and the line's row in the box give each column's point.
-pub turn_of_is : (m : Matrix) (s : ObjAttrs) {iy : ℤ} (r : AffineMatrix) (w j k x y : ℕ)
-    → MatrixOf m r → w ≡ box_width s → iy ≡ pos j -ℤ pos k
-    → StartOf r.pa r.pb (w / 2) k j x → StartOf r.pc r.pd (w / 2) k j y
-    → TurnOf m s iy (record { x = x; y = y; pa = r.pa; pc = r.pc })
-turn_of_is m s {iy} r w j k x y matrix-is w_is iy-is x_is y_is =
+pub turn_of_is : (m : Matrix) (s : ObjAttrs) {iy : ℤ} (t : Turn) (pb pd w j k : ℕ)
+    → m.pa ≡ sub_ℕ t.pa (2 ^ 15) → m.pb ≡ sub_ℕ pb (2 ^ 15) → m.pc ≡ sub_ℕ t.pc (2 ^ 15) → m.pd ≡ sub_ℕ pd (2 ^ 15)
+    → w ≡ box_width s → iy ≡ pos j -ℤ pos k
+    → StartOf t.pa pb (w / 2) k j t.x → StartOf t.pc pd (w / 2) k j t.y
+    → TurnOf m s iy t
+turn_of_is m s {iy} t pb pd w j k pa-is pb-is pc-is pd-is w_is iy-is x_is y_is =
     record {
-      ranged =
-          record {
-            x≥ = x_is.start≥;
-            x≤ = x_is.start≤;
-            y≥ = y_is.start≥;
-            y≤ = y_is.start≤;
-            pa< = matrix-is.pa<;
-            pc< = matrix-is.pc<;
-          };
-      pa_is = matrix-is.pa_is;
-      pc_is = matrix-is.pc_is;
-      x_start = rw (sym w_is) (start_is r.pa r.pb (w / 2) k j x matrix-is.pa_is matrix-is.pb_is iy-is x_is);
-      y_start = rw (sym w_is) (start_is r.pc r.pd (w / 2) k j y matrix-is.pc_is matrix-is.pd_is iy-is y_is);
-      x_is = λ i i≤.
-          rw (sym w_is)
-          (turn_is r.pa r.pb (w / 2) k j x i s.width matrix-is.pa_is matrix-is.pb_is iy-is x_is i≤);
-      y_is = λ i i≤.
-          rw (sym w_is)
-          (turn_is r.pc r.pd (w / 2) k j y i s.height matrix-is.pc_is matrix-is.pd_is iy-is y_is i≤);
+      pa_is = pa-is;
+      pc_is = pc-is;
+      x_start = rw (sym w_is) (start_is t.pa pb (w / 2) k j t.x pa-is pb-is iy-is x_is);
+      y_start = rw (sym w_is) (start_is t.pc pd (w / 2) k j t.y pc-is pd-is iy-is y_is);
+      x_is = λ i i≤. rw (sym w_is) (turn_is t.pa pb (w / 2) k j t.x i s.width pa-is pb-is iy-is x_is i≤);
+      y_is = λ i i≤. rw (sym w_is) (turn_is t.pc pd (w / 2) k j t.y i s.height pc-is pd-is iy-is y_is i≤);
     }

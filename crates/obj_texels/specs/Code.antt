@@ -1,39 +1,22 @@
 -- As code has it: a sprite's row of 128 colours, which the widest box has, and an affine sprite's matrix and points, each
 -- larger by a bias (01, "Sprites"; GBATEK, "LCD OBJ - OAM Attributes", "LCD OBJ - OAM Rotation/Scaling Parameters").
 -- No exported contract reaches this file. Assumes nothing.
-use Rattle.std.specs.Prelude.{ℕ, ◌^◌, ◌+◌, ◌-◌, ◌*◌, ◌/◌, ◌%◌, ◌≤◌, ◌<◌, ◌≡◌, true, cond, List, ltb, ℤ, pos, ◌+ℤ◌, ◌-ℤ◌, ◌*ℤ◌, length}
+use Rattle.std.specs.Prelude.{ℕ, ◌^◌, ◌+◌, ◌-◌, ◌*◌, ◌/◌, ◌≤◌, ◌<◌, ◌≡◌, cond, List, ltb, ℤ, pos, ◌+ℤ◌, ◌-ℤ◌, ◌*ℤ◌}
 use Rattle.std.proofs.Math.IntN.{sub_ℕ}
 use Rattle.rgb15.specs.Colour.{transparent}
 use Rattle.rows.specs.Below.{between}
-use Rattle.memory.specs.Sizes.{oam_size}
-use Rattle.memory.specs.Code.{Lent}
 use Rattle.tiles.specs.Flip.{flip}
 use Rattle.regs.specs.declared.ObjMapping.{ObjMapping}
 use Rattle.regs.specs.declared.reading.Reading.{Reading}
-use Rattle.obj_sprites.specs.Attrs.{Decoded}
 use Rattle.obj_sprites.specs.Oam.{Matrix}
-use Rattle.obj_sprites.specs.Place.{box_width, on_line}
+use Rattle.obj_sprites.specs.Place.{box_width}
 use Rattle.obj_sprites.specs.Tiles.{texel}
 use Rattle.obj_sprites.specs.Color.{color_at, turn}
-use Rattle.obj_sprites.specs.Code.{BaseOf}
 use Rattle.obj_sprites.specs.declared.attrs.ObjAttrs.{ObjAttrs}
 use Rattle.obj_texels.specs.declared.affine.AffineMatrix.{AffineMatrix}
-use Rattle.obj_texels.specs.declared.affine.Turn.{Turn}
+use Rattle.obj_texels.specs.declared.turn.Turn.{Turn}
 
 -- ---- a normal sprite's row
-
--- What row y is read from.
-pub record NormalRow (vram palette : List ℕ) (s : ObjAttrs) (y : ℕ) : Type 0 where
-  pub lent : Lent vram palette
-  pub decoded : Decoded s
-  pub whole : s.width % 8 ≡ 0
-  pub y< : y < s.height
-
--- Tile t of such a row, of a sprite whose tiles start at base.
-pub record ShownTile (reading : Reading) (mapping : ObjMapping) (vram palette : List ℕ) (s : ObjAttrs) (base y t : ℕ) : Type 0 where
-  pub row : NormalRow vram palette s y
-  pub base_of : BaseOf reading mapping s base
-  pub t< : t < s.width / 8
 
 -- The colour of column x of row y of a normal sprite, counted from the left as shown; past the sprite's width there is none.
 unfoldable pub row_texel : Reading → ObjMapping → List ℕ → List ℕ → ObjAttrs → ℕ → ℕ → ℕ
@@ -79,19 +62,9 @@ pub record StartOf (p q m k j start : ℕ) : Type 0 where
   pub start≥ : 2 ^ 22 ≤ start
   pub start≤ : start ≤ 2 ^ 26
 
--- What code computes with has these ranges, so that no difference is below 0.
-pub record Ranged (t : Turn) : Type 0 where
-  pub x≥ : 2 ^ 22 ≤ t.x
-  pub x≤ : t.x ≤ 2 ^ 26
-  pub y≥ : 2 ^ 22 ≤ t.y
-  pub y≤ : t.y ≤ 2 ^ 26
-  pub pa< : t.pa < 2 ^ 16
-  pub pc< : t.pc < 2 ^ 16
-
 -- On a line that lies iy from the box's middle, each column of the box has its point. The numbers themselves: pa and pc are
 -- the matrix's, 2^15 larger, and x and y the sums of column 0 before they are rounded, 2^24 larger.
 pub record TurnOf (m : Matrix) (s : ObjAttrs) (iy : ℤ) (t : Turn) : Type 0 where
-  pub ranged : Ranged t
   pub pa_is : m.pa ≡ sub_ℕ t.pa (2 ^ 15)
   pub pc_is : m.pc ≡ sub_ℕ t.pc (2 ^ 15)
   pub x_start : m.pa *ℤ (pos 0 -ℤ pos (box_width s / 2)) +ℤ m.pb *ℤ iy ≡ sub_ℕ t.x (2 ^ 24)
@@ -103,33 +76,7 @@ pub record TurnOf (m : Matrix) (s : ObjAttrs) (iy : ℤ) (t : Turn) : Type 0 whe
       → turn m.pc m.pd (pos i -ℤ pos (box_width s / 2)) iy s.height
       ≡ sub_ℕ (point_at t.y t.pc i s.height) (2 ^ 16)
 
--- A line that an affine sprite is on.
-pub record TurnLine (oam : List ℕ) (s : ObjAttrs) (reading : Reading) (line : ℕ) : Type 0 where
-  pub oam_is : length oam ≡ oam_size
-  pub decoded : Decoded s
-  pub line< : line < 160
-  pub on_line : on_line reading s line ≡ true
-
 -- ---- an affine sprite's row
-
--- What a column's point is read from.
-pub record Turned (vram palette : List ℕ) (s : ObjAttrs) (t : Turn) : Type 0 where
-  pub lent : Lent vram palette
-  pub decoded : Decoded s
-  pub ranged : Ranged t
-
--- The point of column i, of a sprite whose tiles start at base.
-pub record BoxPoint (reading : Reading) (mapping : ObjMapping) (vram palette : List ℕ) (s : ObjAttrs) (base : ℕ) (t : Turn)
-    (i : ℕ) : Type 0 where
-  pub turned : Turned vram palette s t
-  pub base_of : BaseOf reading mapping s base
-  pub i≤ : i ≤ 127
-
--- The points of the columns from one up to another.
-pub record TurnedRow (vram palette : List ℕ) (s : ObjAttrs) (t : Turn) (from to : ℕ) : Type 0 where
-  pub turned : Turned vram palette s t
-  pub from≤ : from ≤ to
-  pub to≤ : to ≤ 128
 
 -- The colour of column i of an affine sprite's box, at that column's point.
 abbrev pub box_point_color : Reading → ObjMapping → List ℕ → List ℕ → ObjAttrs → Turn → ℕ → ℕ

@@ -1,17 +1,17 @@
 // The points of affine sprites and their colours (render/obj.rs: `get_affine_matrix`, and the sums of `render_affine_obj`).
 // Every number is larger here by a bias, so that none is below 0.
-ghost use Rattle.std.specs.Prelude.{◌≡◌, ◌+◌, ◌/◌, ◌^◌, ◌≤◌, ◌<◌, pos, ◌-ℤ◌, length};
+ghost use Rattle.std.specs.Prelude.{◌≡◌, ◌+◌, ◌/◌, ◌^◌, ◌≤◌, ◌<◌, pos, ◌-ℤ◌};
 ghost use Rattle.rgb15.specs.Colour.{rgb};
-ghost use Rattle.memory.specs.Sizes.{oam_size};
 ghost use Rattle.rows.specs.Tab.{tab};
 ghost use Rattle.obj_sprites.specs.Oam.{matrix};
 ghost use Rattle.obj_sprites.specs.Place.{box_height, below};
+ghost use Rattle.obj_sprites.specs.Code.{OnLine};
 ghost use Rattle.obj_texels.specs.Code.{MatrixOf, StartOf, TurnOf, point_at, box_point_color, affine_texel};
-ghost use Rattle.obj_texels.specs.Code.{StartRanges, TurnLine, PointRanges, BoxPoint, TurnedRow};
+ghost use Rattle.obj_texels.specs.Code.{StartRanges, PointRanges};
 
-use memory::read_16;
-use obj_sprites::{ATTRS_SIZE, BOX_MAX, ObjAttrs, is_inside, read_texel};
-use regs::{ObjMapping, Reading};
+use crate::{Span, Turn};
+use memory::{Memory, Oam, read_16};
+use obj_sprites::{ATTRS_SIZE, BOX_MAX, Sprite, is_inside};
 use rgb15::Rgb15;
 use signed::{HALF_BIAS, lift_half};
 
@@ -43,8 +43,8 @@ struct AffineMatrix {
     pub pd: usize,
 }
 
-fn get_affine_matrix(oam: &[u8], affine_index: usize) -> AffineMatrix
-    requires { (length oam.now ≡ oam_size) × (affine_index ≤ 31) }
+fn get_affine_matrix(oam: &Oam, affine_index: usize) -> AffineMatrix
+    requires { affine_index ≤ 31 }
     ensures { MatrixOf (matrix oam.now affine_index) result }
 {
     let offset = AFFINE_FILL + MATRIX_SIZE * affine_index;
@@ -54,15 +54,6 @@ fn get_affine_matrix(oam: &[u8], affine_index: usize) -> AffineMatrix
         pc: lift_half(read_16(oam, offset + PC_OFS)) as usize,
         pd: lift_half(read_16(oam, offset + PD_OFS)) as usize,
     }
-}
-
-// How the columns of a box turn on a line: where column 0 lies in the sprite, 256 to a pixel, and what a column adds.
-#[derive(Clone, Copy)]
-pub struct Turn {
-    pub x: usize,
-    pub y: usize,
-    pub pa: usize,
-    pub pc: usize,
 }
 
 // One coordinate of where column 0 lies: p and q are the matrix's numbers, half_width and half_height the box's middle,
@@ -76,15 +67,16 @@ fn turn_start(p: usize, q: usize, half_width: usize, half_height: usize, row: us
     added - taken
 }
 
-pub fn turn_line(oam: &[u8], attrs: ObjAttrs, reading: Reading, line: usize) -> Turn
-    requires { TurnLine oam.now attrs reading line }
-    ensures { TurnOf (matrix oam.now attrs.affine_index) attrs
-        (below reading attrs line -ℤ pos (box_height attrs / 2)) result }
+pub fn turn_line(memory: &Memory, sprite: &Sprite) -> Turn
+    requires { OnLine sprite.now }
+    ensures { TurnOf (matrix memory.now.oam sprite.now.attrs.affine_index) sprite.now.attrs
+        (below sprite.now.view.reading sprite.now.attrs sprite.now.view.line -ℤ pos (box_height sprite.now.attrs / 2)) result }
 {
-    let matrix = get_affine_matrix(oam, attrs.affine_index);
+    let attrs = sprite.attrs;
+    let matrix = get_affine_matrix(memory.oam, attrs.affine_index);
     let half_width = attrs.box_width() / 2;
     let half_height = attrs.box_height() / 2;
-    let row = attrs.row(reading, line);
+    let row = attrs.row(sprite.view);
     Turn {
         x: turn_start(matrix.pa, matrix.pb, half_width, half_height, row),
         y: turn_start(matrix.pc, matrix.pd, half_width, half_height, row),
@@ -109,56 +101,34 @@ fn point_at(start: usize, p: usize, i: usize, side: usize) -> usize
     pixel_of(start + p * i - MATRIX_BIAS * i, side)
 }
 
-// The colour of column i of an affine sprite's box, whose tiles start at base: nothing is read where its point is outside.
-pub fn point_color(
-    vram: &[u8],
-    palette: &[u8],
-    attrs: ObjAttrs,
-    base: usize,
-    reading: Reading,
-    mapping: ObjMapping,
-    turn: Turn,
-    i: usize,
-) -> Rgb15
-    requires { BoxPoint reading mapping vram.now palette.now attrs base turn i }
-    ensures { result.0 ≡ box_point_color reading mapping vram.now palette.now attrs turn i }
+// The colour of column i of an affine sprite's box: nothing is read where its point is outside.
+pub fn point_color(memory: &Memory, sprite: &Sprite, turn: Turn, i: usize) -> Rgb15
+    requires { i ≤ 127 }
+    ensures { result.0 ≡ box_point_color sprite.now.view.reading sprite.now.view.mapping memory.now.vram
+        memory.now.palette sprite.now.attrs turn i }
 {
-    let width = attrs.width;
-    let height = attrs.height;
+    let width = sprite.attrs.width;
+    let height = sprite.attrs.height;
     let x = point_at(turn.x, turn.pa, i, width);
     let y = point_at(turn.y, turn.pc, i, height);
     if is_inside(x, OBJ_POINT_BIAS, width) & is_inside(y, OBJ_POINT_BIAS, height) {
         let sprite_x = x - OBJ_POINT_BIAS;
         let sprite_y = y - OBJ_POINT_BIAS;
-        read_texel(
-            vram, palette, attrs, base, reading, mapping, sprite_x, sprite_y,
-        )
+        sprite.texel(memory, sprite_x, sprite_y)
     } else {
         Rgb15::TRANSPARENT
     }
 }
 
-// The colours of an affine sprite's box on a line, for its columns from `from` up to `to`; the others are transparent.
-pub fn affine_row(
-    vram: &[u8],
-    palette: &[u8],
-    attrs: ObjAttrs,
-    reading: Reading,
-    mapping: ObjMapping,
-    turn: Turn,
-    from: usize,
-    to: usize,
-) -> [Rgb15; BOX_MAX]
-    requires { TurnedRow vram.now palette.now attrs turn from to }
-    ensures { result ≡ tab (λ i. rgb (affine_texel reading mapping vram.now palette.now attrs turn
-        from to i)) 128 }
+// The colours of an affine sprite's box on a line, for the columns of a span; the others are transparent.
+pub fn affine_row(memory: &Memory, sprite: &Sprite, turn: Turn, span: Span) -> [Rgb15; BOX_MAX]
+    requires { span.end ≤ 128 }
+    ensures { result ≡ tab (λ i. rgb (affine_texel sprite.now.view.reading sprite.now.view.mapping memory.now.vram
+        memory.now.palette sprite.now.attrs turn span.start span.end i)) 128 }
 {
-    let base = attrs.tile_base(reading, mapping);
     let mut row = [Rgb15::TRANSPARENT; BOX_MAX];
-    let mut i = from;
-    while i < to {
-        row[i] = point_color(vram, palette, attrs, base, reading, mapping, turn, i);
-        i += 1;
+    for i in span.start..span.end {
+        row[i] = point_color(memory, sprite, turn, i);
     }
     row
 }

@@ -5,6 +5,8 @@
 
 mod affine;
 mod normal;
+mod turn;
 
-pub use affine::{Turn, affine_row, point_color, turn_line};
+pub use affine::{affine_row, point_color, turn_line};
 pub use normal::texel_row;
+pub use turn::{Span, Turn};

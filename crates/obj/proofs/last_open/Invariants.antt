@@ -3,8 +3,5 @@
 use Rattle.obj.specs.Code.{WalkedBack, Closed}
 use Rattle.obj.proofs.last_open.Given as goal
 
-abbrev pub invariant-loop-past : goal.invariant-loop-past
-invariant-loop-past l = WalkedBack (Closed l.entries l.priority) l.start l.end l.past
-
-abbrev pub decreases-loop-past : goal.decreases-loop-past
-decreases-loop-past l = l.past
+abbrev pub invariant-loop-column : goal.invariant-loop-column
+invariant-loop-column l = WalkedBack (Closed l.entries l.priority) l.span.start l.span.end l.column

@@ -1,15 +1,17 @@
 -- obj::open_columns meets its contract: a sprite that tests priority is passed over at a closed column.
 -- Assumes nothing.
-use Rattle.obj.proofs.Skip.{walked_closed, walked_back_closed, walked_none, walked_back_none}
+use mathlib.Core.Path.{sym, ap}
 use borrow.Author.Rules.{rules}
+use Rattle.obj_sprites.specs.declared.attrs.ObjAttrs.{ObjAttrs}
+use Rattle.obj.proofs.Skip.{walked_closed, walked_back_closed, walked_none, walked_back_none}
 use Rattle.obj.proofs.open_columns.Goals as goal
 
 pub returns-in-Normal : goal.returns-in-Normal
 returns-in-Normal c =
-    let at = c.args in
-    let first = c.first_open-first in (
-      walked_closed at.entries.now at.attrs c.in-Normal.is first.ensures c.last_open.ensures.from,
-      walked_back_closed at.entries.now at.attrs c.in-Normal.is c.last_open.ensures,
+    let mode_is = sym (ap (λ (s : ObjAttrs). s.objmode) c.attrs.view_is) in
+    let priority_is = sym (ap (λ (s : ObjAttrs). s.priority) c.attrs.view_is) in (
+      walked_closed _ c.args.attrs mode_is priority_is c.in-Normal.is c.trimmed.ensures.0,
+      walked_back_closed _ c.args.attrs mode_is priority_is c.in-Normal.is c.trimmed.ensures.1,
     )
 
 pub returns-in-Window : goal.returns-in-Window

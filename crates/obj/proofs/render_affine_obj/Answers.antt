@@ -1,35 +1,33 @@
 -- obj::render_affine_obj meets its contract: a column that is left out has no pixel, or the sprite is passed over there.
 -- Assumes nothing.
+use Prim.Native.Nat.{◌+◌, ◌-◌, min}
 use native.Mathlib.Omega.{arith}
-use borrow.Author.Rules.{rules}
-use Rattle.obj_sprites.specs.Oam.{matrix}
-use Rattle.obj_sprites.specs.Color.{affine_obj_color}
+use mathlib.Core.Path.{ap, ◌∙◌}
 use Rattle.obj_texels.proofs.Colors.{affine_obj_color_outside}
 use Rattle.obj_texels.proofs.Texels.{affine_obj_color-row}
-use Rattle.obj.proofs.Pixels.{NoneOutside, put_row_closed, put_row_open}
+use Rattle.obj.proofs.Pixels.{put_row_closed, put_row_open}
 use Rattle.obj.proofs.render_affine_obj.Goals as goal
 
 pub returns-then-open : goal.returns-then-open
 returns-then-open c =
-    let at = c.args in
-    let left = c.left-left in
-    -- Outside the box's columns the sprite has no pixel.
-    let outside : NoneOutside
-    (affine_obj_color at.reading at.mapping at.vram.now at.palette.now
-    (matrix at.oam.now at.attrs.affine_index) at.attrs at.line)
-    c.first_column.result c.end_column.result
-    = affine_obj_color_outside _ _ _ _ at.attrs _ left.result left.ensures.0 _ (omega arith) (omega arith) in
-    search (rules, put_row_closed, outside)
+    let end_is = c.covered.ensures.1 ∙ ap (λ w. min 240 (c.left-left.result + w - 272)) c.box_width.ensures.0 in
+    put_row_closed c.args.sprite.now.attrs _ _
+    (affine_obj_color_outside _ _ _ _ _ _ _ c.left-left.ensures.0 _ c.covered.ensures.0 end_is)
+    c.open_columns-open.ensures.0 c.open_columns-open.ensures.1 c.fits-entries c.if-open.true
 
 pub returns : goal.returns
 returns c =
-    let width = c.box_width in
     let left = c.left-left in
-    let pre = c.requires in
-    put_row_open c.args.attrs _ _
-    (affine_obj_color_outside _ _ _ _ c.args.attrs _ left.result left.ensures.0 _ (omega arith) (omega arith))
-    c.open_columns-open.ensures.0 c.open_columns-open.ensures.1
-    c.affine_row-row.result left.result (search rules) c.write_obj_pixels.ensures
+    let span = c.open_columns-open in
+    let width = c.box_width.ensures in
+    let end_is = c.covered.ensures.1 ∙ ap (λ w. min 240 (left.result + w - 272)) width.0 in
+    put_row_open c.args.sprite.now.attrs _ _
+    (affine_obj_color_outside _ _ _ _ _ _ _ left.ensures.0 _ c.covered.ensures.0 end_is)
+    span.ensures.0 span.ensures.1
+    c.affine_row.result left.result c.told-entries c.write_obj_pixels.ensures
     (λ k from to.
-    affine_obj_color-row _ _ _ _ _ _ _ _ left.ensures.0 _ c.turn_line-turn.ensures (omega arith) _ _ k _
-    c.affine_row-row.ensures (omega arith) (omega arith) (omega arith) (omega arith))
+    affine_obj_color-row _ _ _ _ _ _ _ _ left.ensures.0 _ c.turn_line-turn.ensures (omega (arith, width)) _ _ k _
+    c.affine_row.ensures
+    (omega (arith, from, span.ensures.0.from, c.covered.ensures.0))
+    (omega (arith, to, span.ensures.1.to, end_is))
+    (omega (arith, from)) (omega (arith, to)))

@@ -1,26 +1,33 @@
 -- obj::render_normal_obj meets its contract: a column that is left out has no pixel, or the sprite is passed over there.
 -- Assumes nothing.
+use Prim.Native.Nat.{◌+◌, ◌-◌, min}
 use native.Mathlib.Omega.{arith}
-use borrow.Author.Rules.{rules}
-use Rattle.obj_sprites.proofs.Places.{boxed_normal}
+use mathlib.Core.Path.{ap, subst, ◌∙◌}
+use Rattle.obj_sprites.specs.Fields.{Decoded}
+use Rattle.obj_sprites.specs.declared.attrs.ObjAttrs.{ObjAttrs}
 use Rattle.obj_texels.proofs.Colors.{normal_color_outside}
 use Rattle.obj_texels.proofs.Texels.{normal_color-row}
 use Rattle.obj.proofs.Pixels.{put_row_closed, put_row_open}
 use Rattle.obj.proofs.render_normal_obj.Goals as goal
 
 pub returns-then-open : goal.returns-then-open
-returns-then-open c = search (rules, put_row_closed, normal_color_outside)
-
-pub flip-sprite_y-requires : goal.flip-sprite_y-requires
-flip-sprite_y-requires c = omega (arith, boxed_normal c.args.attrs.height c.requires.type_is)
+returns-then-open c =
+    let end_is = c.covered.ensures.1 ∙ ap (λ (s : ObjAttrs). min 240 (c.left-left.result + s.width - 272)) c.attrs.view_is in
+    put_row_closed c.args.sprite.now.attrs _ _
+    (normal_color_outside _ _ _ _ _ _ _ c.left-left.ensures.0 c.covered.ensures.0 end_is)
+    c.open_columns-open.ensures.0 c.open_columns-open.ensures.1 c.fits-entries c.if-open.true
 
 pub returns : goal.returns
 returns c =
     let left = c.left-left in
-    let pre = c.requires in
-    put_row_open c.args.attrs _ _ (search (rules, normal_color_outside, left.ensures.0))
-    c.open_columns-open.ensures.0 c.open_columns-open.ensures.1
-    c.texel_row-row.result left.result (search rules) c.write_obj_pixels.ensures
+    let span = c.open_columns-open in
+    let decoded = subst Decoded c.attrs.view_is c.attrs.invariant in
+    let end_is = c.covered.ensures.1 ∙ ap (λ (s : ObjAttrs). min 240 (left.result + s.width - 272)) c.attrs.view_is in
+    put_row_open c.args.sprite.now.attrs _ _
+    (normal_color_outside _ _ _ _ _ _ _ left.ensures.0 c.covered.ensures.0 end_is)
+    span.ensures.0 span.ensures.1
+    c.texel_row.result left.result c.told-entries c.write_obj_pixels.ensures
     (λ k from to.
-    normal_color-row _ _ _ _ _ _ _ left.ensures.0 (search rules) _ k _ c.row.ensures.0
-    c.flip-sprite_y.ensures.0 c.texel_row-row.ensures (omega arith) (omega arith))
+    normal_color-row _ _ _ _ _ _ _ left.ensures.0 decoded.width≤ k _ c.shown_row.ensures.0 c.texel_row.ensures
+    (omega (arith, from, span.ensures.0.from, c.covered.ensures.0))
+    (omega (arith, to, span.ensures.1.to, end_is)))

@@ -9,15 +9,13 @@ use Rattle.obj_texels.proofs.Texels.{affine_texel-row}
 use Rattle.obj_texels.proofs.affine.affine_row.Goals as goal
 
 pub loop-i-init : goal.loop-i-init
-loop-i-init c = mapped-from (length-replicate 128 (rgb transparent)) (omega arith)
+loop-i-init c = mapped-from (length-replicate 128 (rgb transparent)) (omega (arith, c.args.span.ordered))
 
 pub loop-i-preserved : goal.loop-i-preserved
 loop-i-preserved c =
-    mapped-inside c.loop-i.invariant c.loop-i-test.true c.requires.to≤ (ap rgb c.point_color.ensures)
+    mapped-inside c.loop-i.invariant c.loop-i-test.true c.requires (ap rgb c.point_color.ensures)
 
 pub returns : goal.returns
 returns c =
-    let at = c.args in
     mapped_to c.loop-i.invariant c.loop-i-test.false
-    ∙ affine_texel-row at.reading at.mapping at.vram.now at.palette.now at.attrs at.turn at.from at.to 128
-    (rgb 0)
+    ∙ affine_texel-row _ _ _ _ _ _ _ _ 128 (rgb 0)

@@ -1,6 +1,5 @@
 -- obj_texels::normal::texel_row meets its contract: a turn sets the eight columns of one tile, and the others stay transparent.
 -- Assumes nothing.
-use Prim.Native.Nat.{◌-◌, ◌≤◌}
 use Rattle.rgb15.specs.Colour.{rgb}
 use Rattle.rows.proofs.Tiles.{TilesSet}
 use Rattle.obj_texels.specs.Code.{row_texel}
@@ -8,7 +7,6 @@ use Rattle.obj_texels.proofs.normal.texel_row.Given as goal
 
 abbrev pub invariant-loop-t : goal.invariant-loop-t
 invariant-loop-t l =
-    (l.t ≤ l.tiles) × TilesSet (λ x. rgb (row_texel l.reading l.mapping l.vram l.palette l.attrs l.y x)) 128 (rgb 0) l.initial.row l.t l.row
-
-abbrev pub decreases-loop-t : goal.decreases-loop-t
-decreases-loop-t l = l.tiles - l.t
+    let s = l.fn.sprite in
+    TilesSet (λ x. rgb (row_texel s.view.reading s.view.mapping l.memory.vram l.memory.palette s.attrs l.y x)) 128 (rgb 0)
+    l.initial.row l.t l.row
