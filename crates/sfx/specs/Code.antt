@@ -1,50 +1,34 @@
--- As code has it: a colour line for each background, and the colour of a column's halfwords (01, "What must change shape").
+-- As code has it: the line of each place, and the colour of a column's halfwords (01, "What must change shape").
 -- No exported contract reaches this file. Assumes nothing.
-use Rattle.std.specs.Prelude.{ℕ, ◌≤◌, ◌≡◌, List, [], ◌∷◌, get_or, length}
+use Rattle.std.specs.Prelude.{ℕ, Bool, List, [], ◌∷◌, get_or, Option, Some, None, eqb}
 use Rattle.rgb15.specs.declared.Rgb15.{Rgb15}
-use Rattle.bits.specs.Bits.{bit}
-use Rattle.memory.specs.Sizes.{output_size, palette_ram_size, registers_size}
-use Rattle.regs.specs.Registers.{bldy}
-use Rattle.regs.specs.Reading.{counted}
-use Rattle.regs.specs.declared.reading.Reading.{Reading}
-use Rattle.obj_entries.specs.Entry.{entries_size}
+use Rattle.bits.specs.Bits.{bits, bit}
 use Rattle.rgb15.specs.Colour.{rgb}
-use Rattle.sfx_layers.specs.Code.{line_color, effects_bit, column_pair}
+use Rattle.rows.specs.Below.{all_below}
+use Rattle.sfx_layers.specs.Code.{semi_bit, effects_bit, column_pair}
 use Rattle.sfx_layers.specs.declared.layer.LineLayers.{LineLayers}
-use Rattle.sfx_effects.specs.Code.{faded_color, pair_color}
-use Rattle.sfx_effects.specs.declared.Weights.{Weights}
+use Rattle.sfx_effects.specs.Code.{pair_color}
+use Rattle.sfx_effects.specs.declared.weights.Weights.{Weights}
+use Rattle.sfx.specs.declared.Rows.{Rows}
 
--- What a line is composed from, and written to: its lengths, and a weight of a fade that a blend takes.
-pub record Composable (output entries palette registers : List ℕ) (reading : Reading) : Type 0 where
-  pub output_is : length output ≡ output_size
-  pub entries_is : length entries ≡ entries_size
-  pub palette_is : length palette ≡ palette_ram_size
-  pub registers_is : length registers ≡ registers_size
-  pub evy≤ : counted reading (bldy registers) ≤ 16
+-- The line of what a place holds; where it holds none, any serves.
+abbrev pub line_in : List (List Rgb15) → Option ℕ → List Rgb15
+line_in lines None = get_or lines 0 []
+line_in lines (Some bg) = get_or lines bg []
 
--- The line of a background, of those of backgrounds 0 to 3; the last stands for any other number.
-unfoldable pub bg_line : List Rgb15 → List Rgb15 → List Rgb15 → List Rgb15 → ℕ → List Rgb15
-bg_line line0 line1 line2 line3 bg = get_or (line0 ∷ line1 ∷ line2 ∷ line3 ∷ []) bg line3
+-- Whether no tag of a line has the mark of a semi-transparent object.
+abbrev pub is_plain : List ℕ → Bool
+is_plain tags = all_below (λ column. eqb (bits semi_bit semi_bit (get_or tags column 0)) 0) 240
 
--- ---- a column
+-- The colour of each place's line at a column.
+abbrev pub colors_at : Rows → ℕ → List Rgb15
+colors_at rows column =
+    let color : List Rgb15 → Rgb15 = λ line. get_or line column (rgb 0) in
+    color rows.first.now ∷ color rows.second.now ∷ color rows.third.now ∷ color rows.fourth.now ∷ []
 
--- The colour of a column, by its line, what its region permits, its object's tag and colour and the colour of each place.
-unfoldable pub column_color : LineLayers → Weights → ℕ → ℕ → ℕ → ℕ → ℕ → ℕ → ℕ → ℕ
-column_color line w region tag object a b c d =
-    pair_color w line.mode (bit effects_bit region) (column_pair line region tag object a b c d)
-
--- The colour of a column by its top alone.
-unfoldable pub top_color : LineLayers → Weights → ℕ → ℕ → ℕ → ℕ → ℕ → ℕ → ℕ → ℕ
-top_color line w region tag object a b c d =
-    let p = column_pair line region tag object a b c d in
-    faded_color w line.mode (bit effects_bit region) p.top p.top_tag
-
--- ---- a line
-
--- What a column's colour is made of, taken from the rows of a line.
-unfoldable pub at_column : (ℕ → ℕ → ℕ → ℕ → ℕ → ℕ → ℕ → ℕ) → List ℕ → List ℕ → List ℕ → List Rgb15 → List Rgb15 → List Rgb15
-    → List Rgb15 → ℕ → Rgb15
-at_column color regions tags objects line0 line1 line2 line3 column =
-    rgb
-    (color (get_or regions column 0) (get_or tags column 0) (get_or objects column 0)
-    (line_color line0 column) (line_color line1 column) (line_color line2 column) (line_color line3 column))
+-- The colour of a column, by its line and the rows that it is composed of; where layers can't be blended, by the top alone.
+unfoldable pub column_color : Bool → LineLayers → Weights → Rows → ℕ → ℕ
+column_color blends line w rows column =
+    let region = get_or rows.regions.now column 0 in
+    pair_color blends w line.mode (bit effects_bit region)
+    (column_pair line region (get_or rows.tags.now column 0) (get_or rows.objects.now column 0) (colors_at rows column))

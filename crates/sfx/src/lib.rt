@@ -2,296 +2,166 @@
 
 #![tactic(auto)]
 
-ghost use Rattle.std.specs.Prelude.{◌≡◌, ◌≤◌, length, get_or};
-ghost use Rattle.bits.specs.Bits.{bits};
-ghost use Rattle.rgb15.specs.Colour.{to_rgb24};
-ghost use Rattle.rows.specs.Below.{tally};
+ghost use Rattle.std.specs.Prelude.{◌≡◌, ◌≤◌, ◌<◌, true, get_or, None, []};
+ghost use Rattle.rgb15.specs.Colour.{rgb, to_rgb24};
 ghost use Rattle.rows.specs.Cells.{cell_at, row_of};
 ghost use Rattle.rows.specs.Tab.{tab};
 ghost use Rattle.rows.specs.Words.{word_cells};
 ghost use Rattle.memory.specs.Palette.{backdrop};
-ghost use Rattle.obj_entries.specs.Entry.{entries_size, entry_cells};
+ghost use Rattle.regs.specs.Registers.{bldy};
+ghost use Rattle.regs.specs.Reading.{counted};
+ghost use Rattle.obj_entries.specs.Entry.{entry_cells};
+ghost use Rattle.sfx_sorting.specs.Code.{number_in};
 ghost use Rattle.sfx_layers.specs.Layers.{backgrounds};
-ghost use Rattle.sfx_layers.specs.Code.{line_color, semi_bit, Unmarked, object_tag};
-ghost use Rattle.sfx_effects.specs.Code.{Weighed};
-ghost use Rattle.sfx.specs.Code.{Composable, bg_line, column_color, top_color, at_column};
+ghost use Rattle.sfx_layers.specs.Code.{line_color, Unmarked, object_tag};
+ghost use Rattle.sfx.specs.Code.{line_in, column_color, is_plain};
 ghost use Rattle.sfx.specs.Pixel.{pixel};
 
-use memory::DISPLAY_WIDTH;
-use obj_entries::entry_at;
+use memory::{DISPLAY_WIDTH, Memory, Output};
+use obj_entries::{Entries, entry_at};
 use regs::Reading;
-use regs::iodev::read_dispcnt;
+use regs_blend::BlendMode;
 use rgb15::Rgb15;
 use rows::put_word;
-use sfx_effects::{Weights, do_effect, do_fade, line_weights};
+use sfx_effects::{Weights, do_effect, line_weights};
 use sfx_layers::{
-    EFFECTS, LineLayers, MODE_ALPHA, SEMI_OBJECT, column_pair, line_layers, line_regions,
+    EFFECTS, LineLayers, SEMI_OBJECT, column_pair, is_permitted, line_layers, line_regions,
     object_tag,
 };
-use sfx_sorting::sort_backgrounds;
+use sfx_sorting::{Background, sort_backgrounds};
+use std::array;
 
-// The colour of a column.
-fn finalize_pixel(
-    line: LineLayers,
-    weights: Weights,
-    region: u16,
-    tag: u16,
-    object: u16,
-    color0: Rgb15,
-    color1: Rgb15,
-    color2: Rgb15,
-    color3: Rgb15,
-) -> Rgb15
-    requires { Weighed weights }
-    ensures { result.0 ≡ column_color line weights region tag object color0.0 color1.0 color2.0 color3.0 }
-{
-    let layers = column_pair(line, region, tag, object, color0, color1, color2, color3);
-    do_effect(weights, line.mode, region / EFFECTS % 2 == 1, layers)
+// What a line is composed of, column by column: what its region permits, its object's tag and colour, and the lines of the four
+// places.
+#[derive(Clone, Copy)]
+struct Rows<'a> {
+    regions: &'a [u16; DISPLAY_WIDTH],
+    tags: &'a [u16; DISPLAY_WIDTH],
+    objects: &'a [u16; DISPLAY_WIDTH],
+    first: &'a [Rgb15; DISPLAY_WIDTH],
+    second: &'a [Rgb15; DISPLAY_WIDTH],
+    third: &'a [Rgb15; DISPLAY_WIDTH],
+    fourth: &'a [Rgb15; DISPLAY_WIDTH],
 }
 
-// The colour of a column whose layers aren't blended, by the top alone: the compiler drops the bottom.
-fn top_pixel(
-    line: LineLayers,
-    weights: Weights,
-    region: u16,
-    tag: u16,
-    object: u16,
-    color0: Rgb15,
-    color1: Rgb15,
-    color2: Rgb15,
-    color3: Rgb15,
-) -> Rgb15
-    requires { Weighed weights }
-    ensures { result.0 ≡ top_color line weights region tag object color0.0 color1.0 color2.0 color3.0 }
-{
-    let layers = column_pair(line, region, tag, object, color0, color1, color2, color3);
-    do_fade(
-        weights,
-        line.mode,
-        region / EFFECTS % 2 == 1,
-        layers.top,
-        layers.top_tag,
-    )
+impl<'a> Rows<'a> {
+    // The colour of a column; BLENDS is whether layers of the line can be blended, as for `do_effect`.
+    fn color<const BLENDS: bool>(&self, line: LineLayers, weights: Weights, column: usize) -> Rgb15
+        requires { column < 240 }
+        ensures { result.0 ≡ column_color BLENDS line weights self.now column }
+    {
+        let region = self.regions[column];
+        let colors = [
+            self.first[column],
+            self.second[column],
+            self.third[column],
+            self.fourth[column],
+        ];
+        let layers = column_pair(
+            line,
+            region,
+            self.tags[column],
+            self.objects[column],
+            colors,
+        );
+        do_effect::<BLENDS>(weights, line.mode, is_permitted(region, EFFECTS), layers)
+    }
+
+    // Whether no object of the line is semi-transparent: all tags are asked, which is quicker than to stop at the first that is.
+    fn is_plain(&self) -> bool
+        ensures { result ≡ is_plain self.now.tags.now }
+    {
+        let mut plain = true;
+        for column in 0..DISPLAY_WIDTH {
+            plain &= self.tags[column] / SEMI_OBJECT % 2 == 0;
+        }
+        plain
+    }
+
+    // The colours of the line, by the tops alone where that is enough.
+    fn compose(&self, line: LineLayers, weights: Weights) -> [Rgb15; DISPLAY_WIDTH]
+        requires { Unmarked line }
+        ensures { result ≡ tab (λ column. rgb (column_color true line weights self.now column)) 240 }
+    {
+        let plain = self.is_plain();
+        if (line.mode != BlendMode::BldAlpha) & plain {
+            array::from_fn(|column| self.color::<false>(line, weights, column))
+        } else {
+            array::from_fn(|column| self.color::<true>(line, weights, column))
+        }
+    }
 }
 
 // The colours of a line's entries.
-fn object_colors(entries: &[u8]) -> [u16; DISPLAY_WIDTH]
-    requires { length entries.now ≡ entries_size }
+fn object_colors(entries: &Entries) -> [u16; DISPLAY_WIDTH]
     ensures { result ≡ tab (λ column. (cell_at entry_cells entries.now column).color.0) 240 }
 {
-    let mut colors = [0u16; DISPLAY_WIDTH];
-    let mut column: usize = 0;
-    while column < DISPLAY_WIDTH {
-        colors[column] = entry_at(entries, column).color.0;
-        column += 1;
-    }
-    colors
+    array::from_fn(|column| entry_at(entries, column).color.0)
 }
 
 // The tags of a line's entries as layers.
-fn object_tags(entries: &[u8], tag: u16) -> [u16; DISPLAY_WIDTH]
-    requires { (length entries.now ≡ entries_size) × (tag ≤ 3) }
+fn object_tags(entries: &Entries, tag: u16) -> [u16; DISPLAY_WIDTH]
+    requires { tag ≤ 3 }
     ensures { result ≡ tab (λ column. object_tag tag (cell_at entry_cells entries.now column)) 240 }
 {
-    let mut tags = [0u16; DISPLAY_WIDTH];
-    let mut column: usize = 0;
-    while column < DISPLAY_WIDTH {
-        tags[column] = object_tag(tag, entry_at(entries, column));
-        column += 1;
-    }
-    tags
+    array::from_fn(|column| object_tag(tag, entry_at(entries, column)))
 }
 
-// The colours of a line.
-fn finalize_row(
-    line: LineLayers,
-    weights: Weights,
-    regions: [u16; DISPLAY_WIDTH],
-    tags: [u16; DISPLAY_WIDTH],
-    objects: [u16; DISPLAY_WIDTH],
-    line0: [Rgb15; DISPLAY_WIDTH],
-    line1: [Rgb15; DISPLAY_WIDTH],
-    line2: [Rgb15; DISPLAY_WIDTH],
-    line3: [Rgb15; DISPLAY_WIDTH],
-) -> [Rgb15; DISPLAY_WIDTH]
-    requires { Weighed weights }
-    ensures { result ≡ tab (at_column (column_color line weights) regions tags objects line0 line1 line2 line3) 240 }
-{
-    let mut colors = [Rgb15::BLACK; DISPLAY_WIDTH];
-    let mut column: usize = 0;
-    while column < DISPLAY_WIDTH {
-        colors[column] = finalize_pixel(
-            line,
-            weights,
-            regions[column],
-            tags[column],
-            objects[column],
-            line0[column],
-            line1[column],
-            line2[column],
-            line3[column],
-        );
-        column += 1;
-    }
-    colors
-}
-
-// The colours of a line on which no layers are blended.
-fn top_row(
-    line: LineLayers,
-    weights: Weights,
-    regions: [u16; DISPLAY_WIDTH],
-    tags: [u16; DISPLAY_WIDTH],
-    objects: [u16; DISPLAY_WIDTH],
-    line0: [Rgb15; DISPLAY_WIDTH],
-    line1: [Rgb15; DISPLAY_WIDTH],
-    line2: [Rgb15; DISPLAY_WIDTH],
-    line3: [Rgb15; DISPLAY_WIDTH],
-) -> [Rgb15; DISPLAY_WIDTH]
-    requires { Weighed weights }
-    ensures { result ≡ tab (at_column (top_color line weights) regions tags objects line0 line1 line2 line3) 240 }
-{
-    let mut colors = [Rgb15::BLACK; DISPLAY_WIDTH];
-    let mut column: usize = 0;
-    while column < DISPLAY_WIDTH {
-        colors[column] = top_pixel(
-            line,
-            weights,
-            regions[column],
-            tags[column],
-            objects[column],
-            line0[column],
-            line1[column],
-            line2[column],
-            line3[column],
-        );
-        column += 1;
-    }
-    colors
-}
-
-// How many of a line's entries are semi-transparent.
-fn count_semi(tags: [u16; DISPLAY_WIDTH]) -> u16
-    ensures { result ≡ tally (λ column. bits semi_bit semi_bit (get_or tags column 0)) 240 }
-{
-    let mut count: u16 = 0;
-    let mut column: usize = 0;
-    while column < DISPLAY_WIDTH {
-        count += tags[column] / SEMI_OBJECT % 2;
-        column += 1;
-    }
-    count
-}
-
-// The colours of a line, by the top alone where that is enough.
-fn compose_row(
-    line: LineLayers,
-    weights: Weights,
-    regions: [u16; DISPLAY_WIDTH],
-    tags: [u16; DISPLAY_WIDTH],
-    objects: [u16; DISPLAY_WIDTH],
-    line0: [Rgb15; DISPLAY_WIDTH],
-    line1: [Rgb15; DISPLAY_WIDTH],
-    line2: [Rgb15; DISPLAY_WIDTH],
-    line3: [Rgb15; DISPLAY_WIDTH],
-) -> [Rgb15; DISPLAY_WIDTH]
-    requires { Weighed weights × Unmarked line }
-    ensures { result ≡ tab (at_column (column_color line weights) regions tags objects line0 line1 line2 line3) 240 }
-{
-    let semi = count_semi(tags);
-    if (line.mode != MODE_ALPHA) & (semi == 0) {
-        top_row(
-            line, weights, regions, tags, objects, line0, line1, line2, line3,
-        )
-    } else {
-        finalize_row(
-            line, weights, regions, tags, objects, line0, line1, line2, line3,
-        )
-    }
-}
-
-// The 24-bit forms of a line's colours.
-fn wide_row(colors: [Rgb15; DISPLAY_WIDTH]) -> [u32; DISPLAY_WIDTH]
-    ensures { result ≡ tab (λ column. to_rgb24 (line_color colors column)) 240 }
-{
-    let mut pixels = [0u32; DISPLAY_WIDTH];
-    let mut column: usize = 0;
-    while column < DISPLAY_WIDTH {
-        pixels[column] = colors[column].to_rgb24();
-        column += 1;
-    }
-    pixels
-}
-
-// The output of a row of pixels.
-fn write_row(output: &mut [u8], pixels: [u32; DISPLAY_WIDTH])
-    requires { length output.old ≡ 960 }
-    ensures { output.new ≡ row_of word_cells (λ column. get_or pixels column 0) 240 }
-{
-    let mut column: usize = 0;
-    while column < DISPLAY_WIDTH {
-        put_word(output, column, pixels[column]);
-        column += 1;
-    }
-}
-
-// The line of the background in a place; where it has none, the region permits no line, so any serves.
+// The line of the background in place k; where it has none, the region permits no line, so any serves.
 fn line_in_place(
-    place: usize,
-    line0: [Rgb15; DISPLAY_WIDTH],
-    line1: [Rgb15; DISPLAY_WIDTH],
-    line2: [Rgb15; DISPLAY_WIDTH],
-    line3: [Rgb15; DISPLAY_WIDTH],
-) -> [Rgb15; DISPLAY_WIDTH]
-    ensures { result ≡ bg_line line0 line1 line2 line3 place }
+    lines: &[[Rgb15; DISPLAY_WIDTH]; 4],
+    places: [Option<Background>; 4],
+    k: usize,
+) -> &[Rgb15; DISPLAY_WIDTH]
+    requires { k < 4 }
+    ensures { result.now ≡ line_in lines.now (number_in (get_or places k None)) }
 {
-    match place {
-        0 => line0,
-        1 => line1,
-        2 => line2,
-        _ => line3,
+    match places[k] {
+        Some(bg) => &lines[bg.number],
+        None => &lines[0],
+    }
+}
+
+// The output of a row of colours, each in its 24-bit form.
+fn write_row(output: &mut Output, colors: &[Rgb15; DISPLAY_WIDTH])
+    ensures { output.new ≡ row_of word_cells (λ column. to_rgb24 (line_color colors.now column)) 240 }
+{
+    for column in 0..DISPLAY_WIDTH {
+        put_word(output, column, colors[column].to_rgb24());
     }
 }
 
 // A line composed and written, of the lines of backgrounds 0 to 3; they are sorted once for all its columns.
 pub fn finalize_scanline(
-    output: &mut [u8],
-    entries: &[u8],
-    palette: &[u8],
-    registers: &[u8],
+    output: &mut Output,
+    entries: &Entries,
+    memory: &Memory,
     reading: Reading,
     line: usize,
-    line0: [Rgb15; DISPLAY_WIDTH],
-    line1: [Rgb15; DISPLAY_WIDTH],
-    line2: [Rgb15; DISPLAY_WIDTH],
-    line3: [Rgb15; DISPLAY_WIDTH],
+    lines: &[[Rgb15; DISPLAY_WIDTH]; 4],
 )
-    requires { Composable output.old entries.now palette.now registers.now reading }
+    requires { counted reading (bldy memory.now.registers) ≤ 16 }
     ensures { output.new
         ≡ row_of word_cells
         (λ column.
-        pixel reading registers.now (backdrop palette.now)
-        (backgrounds registers.now (λ bg. line_color (bg_line line0 line1 line2 line3 bg) column))
+        pixel reading memory.now.registers (backdrop memory.now.palette)
+        (backgrounds memory.now.registers (λ bg. line_color (get_or lines.now bg []) column))
         (cell_at entry_cells entries.now column)
         column line)
         240 }
 {
-    let places = sort_backgrounds(read_dispcnt(registers), registers);
-    let regions = line_regions(entries, registers, reading, line, places);
-    let layers = line_layers(palette, registers, places);
-    let weights = line_weights(registers, reading);
-    let tags = object_tags(entries, layers.object);
-    let objects = object_colors(entries);
-    let colors = compose_row(
-        layers,
-        weights,
-        regions,
-        tags,
-        objects,
-        line_in_place(places[0], line0, line1, line2, line3),
-        line_in_place(places[1], line0, line1, line2, line3),
-        line_in_place(places[2], line0, line1, line2, line3),
-        line_in_place(places[3], line0, line1, line2, line3),
-    );
-    write_row(output, wide_row(colors));
+    let registers = memory.registers;
+    let places = sort_backgrounds(registers);
+    let layers = line_layers(memory, places);
+    let rows = Rows {
+        regions: &line_regions(entries, registers, reading, line, places),
+        tags: &object_tags(entries, layers.object),
+        objects: &object_colors(entries),
+        first: line_in_place(lines, places, 0),
+        second: line_in_place(lines, places, 1),
+        third: line_in_place(lines, places, 2),
+        fourth: line_in_place(lines, places, 3),
+    };
+    let colors = rows.compose(layers, line_weights(registers, reading));
+    write_row(output, &colors);
 }

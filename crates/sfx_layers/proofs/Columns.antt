@@ -5,11 +5,14 @@ use native.Mathlib.Omega.{arith}
 use mathlib.Core.Path.{◌≡◌, refl, ap, ◌∙◌}
 use mathlib.Core.Bool.{Bool, true, false, cond, ◌&&◌}
 use mathlib.Core.List.{List, [], ◌∷◌}
-use lib.Dec.{leb, ltb}
+use lib.Dec.{leb}
+use Rattle.std.specs.Prelude.{Option, Some, None}
+use Rattle.sfx_sorting.specs.Code.{number_in}
+use Rattle.sfx_sorting.specs.declared.background.Background.{Background}
 use lib.ListN.{get_or}
-use borrow.Author.Tests.{ltb-true}
 use Rattle.rows.specs.Tab.{tab}
-use Rattle.rows.proofs.Tab.{tab_cong}
+use Rattle.rows.proofs.Tab.{tab_cong, get_or-of-tab}
+use Rattle.rgb15.specs.declared.Rgb15.{Rgb15}
 use Rattle.memory.specs.Palette.{backdrop}
 use Rattle.regs.specs.Registers.{bgcnt, dispcnt}
 use Rattle.regs.specs.Background.{priority}
@@ -28,12 +31,12 @@ use Rattle.sfx_regions.proofs.Regions.{word_in_each}
 use Rattle.sfx_sorting.specs.Ordered.{keep}
 use Rattle.sfx_layers.specs.Layers.{Layer, Pair, is_object, background, backdrop_layer, object_layer}
 use Rattle.sfx_layers.specs.Layers.{counts, object_counts, first_two, placed, layers}
-use Rattle.sfx_layers.specs.Code.{object_tag, line_tag, line_place_tag, place_tag, is_seen, goes_over}
+use Rattle.sfx_layers.specs.Code.{line_color, object_tag, line_tag, line_place_tag, place_tag, is_seen, goes_over}
 use Rattle.sfx_layers.specs.Code.{permits_place, region_word, column_region}
 use Rattle.sfx_layers.specs.Code.{put_background, backdrop_pair, background_pair, put_object, column_pair, LineLayersOf}
 use Rattle.sfx_layers.specs.declared.layer.LayerPair.{LayerPair}
 use Rattle.sfx_layers.specs.declared.layer.LineLayers.{LineLayers}
-use Rattle.sfx_layers.proofs.Places.{placed_layer, placed_layers}
+use Rattle.sfx_layers.proofs.Places.{placed_layer, placed_layers, number_at}
 use Rattle.sfx_layers.proofs.Tags.{tag_of, tag-bits, tag_plain, tag_object, region-bits}
 
 is_object-background : (bg : ℕ) → bg < 4 → is_object (background_layer bg) ≡ false
@@ -57,29 +60,25 @@ module _ (registers : List ℕ) (semi : Bool) where
 
   -- ---- the backgrounds
 
-  module _ (flags : ℕ) (back : Layer) (rest : List Layer) (place color : ℕ) where
-    counts-background : place < 4 → counts flags (background registers place color) ≡ is_seen (permits flags place) color
-    unfolding counts
-    counts-background place< = rw (layer_bit-background place place<)
-
+  module _ (flags : ℕ) (back : Layer) (rest : List Layer) (color : ℕ) where
     -- A background over what is behind it, if it is shown.
-    put-background : (t : Bool) → is_seen (permits flags place) color ≡ t → place < 4
-        → put_background (pair_of (first_two flags back rest)) (permits flags place)
-        (line_tag registers (background_layer place) (priority (bgcnt registers place))) color
-        ≡ pair_of (first_two flags back (background registers place color ∷ rest))
-    unfolding put_background pair_of first_two keep
-    put-background true t place< =
-        let plain = tag_plain registers semi (background registers place color) (is_object-background place place<) in
-        rw (counts-background place<, t, plain)
-    put-background false t place< = rw (counts-background place<, t)
+    put-background : (bg : ℕ) → bg < 4 → (t : Bool) → is_seen (permits flags bg) color ≡ t
+        → put_background (pair_of (first_two flags back rest)) (permits flags bg)
+        (line_tag registers (background_layer bg) (priority (bgcnt registers bg))) color
+        ≡ pair_of (first_two flags back (background registers bg color ∷ rest))
+    unfolding put_background pair_of first_two keep counts
+    put-background bg bg< true t =
+        let plain = tag_plain registers semi (background registers bg color) (is_object-background bg bg<) in
+        rw (layer_bit-background bg bg<, t, plain)
+    put-background bg bg< false t = rw (layer_bit-background bg bg<, t)
 
     -- The background of a place, if it has one.
-    put-place : (t : Bool) → ltb place 4 ≡ t
+    put-place : (place : Option Background)
         → put_background (pair_of (first_two flags back rest)) (permits_place flags place) (line_place_tag registers place) color
-        ≡ pair_of (first_two flags back (placed_layer registers place color rest))
+        ≡ pair_of (first_two flags back (placed_layer registers (number_in place) color rest))
     unfolding place_tag placed_layer put_background
-    put-place true t = rw t (put-background _ refl (ltb-true place 4 t))
-    put-place false t = rw t
+    put-place None = refl
+    put-place (Some bg) = put-background bg.number bg.below _ refl
 
   -- ---- the object
 
@@ -104,8 +103,9 @@ module _ (registers : List ℕ) (semi : Bool) where
 
 -- ---- a column
 
-module _ (palette registers at : List ℕ) {line : LineLayers} (line-is : LineLayersOf palette registers at line)
-    (a b c d : ℕ) (e : Entry) (flags : ℕ) where
+module _ (palette registers : List ℕ) (at : List (Option Background)) {line : LineLayers}
+    (line-is : LineLayersOf palette registers at line)
+    (colors : List Rgb15) (e : Entry) (flags : ℕ) where
   -- The word of the column's region.
   abbrev word : ℕ
   word = region_word (enable_obj (dispcnt registers)) at flags
@@ -116,24 +116,29 @@ module _ (palette registers at : List ℕ) {line : LineLayers} (line-is : LineLa
       let plain = tag_plain registers (semi_mark e) (backdrop_layer (backdrop palette)) refl in
       rw (line-is.backdrop_is, line-is.backdrop_tag_is ∙ plain)
 
-  background-pair : background_pair line word a b c d
-      ≡ pair_of registers (semi_mark e) (first_two flags (backdrop_layer (backdrop palette)) (placed_layers registers at a b c d))
+  place : (k : ℕ) → k < 4 → get_or line.places k 0 ≡ line_place_tag registers (get_or at k None)
+  place k k< = get_or-of-tab _ 4 k 0 line-is.places_are k<
+
+  background-pair : background_pair line word colors
+      ≡ pair_of registers (semi_mark e)
+      (first_two flags (backdrop_layer (backdrop palette)) (placed_layers registers (number_at at) (line_color colors)))
   unfolding background_pair placed_layers
   background-pair =
       let bits = region-bits (enable_obj (dispcnt registers)) at flags in
       let semi = semi_mark e in
       let back : Layer = backdrop_layer (backdrop palette) in
       rw (bits.place0_is, bits.place1_is, bits.place2_is, bits.place3_is)
-      (rw (line-is.place0_is, line-is.place1_is, line-is.place2_is, line-is.place3_is, backdrop-pair)
+      (rw (place 0 (omega arith), place 1 (omega arith), place 2 (omega arith), place 3 (omega arith), backdrop-pair)
       (rw (
-        put-place registers semi flags back [] (get_or at 3 0) d _ refl,
-        put-place registers semi flags back _ (get_or at 2 0) c _ refl,
-        put-place registers semi flags back _ (get_or at 1 0) b _ refl,
-        put-place registers semi flags back _ (get_or at 0 0) a _ refl,
+        put-place registers semi flags back [] (line_color colors 3) (get_or at 3 None),
+        put-place registers semi flags back _ (line_color colors 2) (get_or at 2 None),
+        put-place registers semi flags back _ (line_color colors 1) (get_or at 1 None),
+        put-place registers semi flags back _ (line_color colors 0) (get_or at 0 None),
       )))
 
-  pub column-pair : column_pair line word (object_tag line.object e) e.color.0 a b c d
-      ≡ pair_of registers (semi_mark e) (layers registers flags (backdrop palette) (placed_layers registers at a b c d) e)
+  pub column-pair : column_pair line word (object_tag line.object e) e.color.0 colors
+      ≡ pair_of registers (semi_mark e)
+      (layers registers flags (backdrop palette) (placed_layers registers (number_at at) (line_color colors)) e)
   unfolding column_pair layers object_counts
   column-pair =
       let bits = region-bits (enable_obj (dispcnt registers)) at flags in
@@ -143,7 +148,7 @@ module _ (palette registers at : List ℕ) {line : LineLayers} (line-is : LineLa
 -- ---- a line
 
 -- The words of the five regions, by the flags that were read of each.
-pub regions_are : (reading : Reading) (registers entries at : List ℕ) (line : ℕ)
+pub regions_are : (reading : Reading) (registers entries : List ℕ) (at : List (Option Background)) (line : ℕ)
     {objects : Bool} {words : RegionWords} {row : List ℕ}
     → objects ≡ enable_obj (dispcnt registers)
     → words.win0 ≡ region_word objects at (permitted registers Win0)

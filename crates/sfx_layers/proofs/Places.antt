@@ -2,64 +2,56 @@
 -- No contract cites this file. Assumes nothing.
 use Prim.Native.Nat.{ℕ, ◌≤◌}
 use native.Mathlib.Omega.{arith}
-use mathlib.Core.Path.{◌≡◌, refl}
-use mathlib.Core.Bool.{true, cond}
+use mathlib.Core.Path.{◌≡◌, refl, sym, ap, ◌∙◌}
 use mathlib.Core.List.{List, [], ◌∷◌, map}
-use lib.Dec.{ltb}
-use lib.ListN.{length, get_or}
-use Rattle.bits.proofs.Booleans.{and_both}
+use lib.ListN.{length, get_or, get_or-map}
+use Rattle.std.specs.Prelude.{Option, Some, None}
 use Rattle.sfx_sorting.specs.Ordered.{ordered}
-use Rattle.sfx_sorting.specs.Code.{places}
-use Rattle.sfx_sorting.proofs.Sorting.{small, length-ordered, small-ordered}
+use Rattle.sfx_sorting.specs.Code.{number_in, places}
+use Rattle.sfx_sorting.specs.declared.background.Background.{Background}
+use Rattle.sfx_sorting.proofs.Sorting.{length-ordered}
 use Rattle.sfx_layers.specs.Layers.{Layer, background, backgrounds}
 
 -- The layer of a place, if it holds a background, before those of the places after it.
-unfoldable pub placed_layer : List ℕ → ℕ → ℕ → List Layer → List Layer
-placed_layer registers place color rest = cond (ltb place 4) (background registers place color ∷ rest) rest
+unfoldable pub placed_layer : List ℕ → Option ℕ → ℕ → List Layer → List Layer
+placed_layer registers None color rest = rest
+placed_layer registers (Some bg) color rest = background registers bg color ∷ rest
 
--- The layers of the four places at a column, by the colour of each.
-unfoldable pub placed_layers : List ℕ → List ℕ → ℕ → ℕ → ℕ → ℕ → List Layer
-placed_layers registers at a b c d =
-    placed_layer registers (get_or at 0 0) a
-    (placed_layer registers (get_or at 1 0) b
-    (placed_layer registers (get_or at 2 0) c
-    (placed_layer registers (get_or at 3 0) d
-    [])))
+-- The layers of the four places at a column, by what each holds and its colour.
+unfoldable pub placed_layers : List ℕ → (ℕ → Option ℕ) → (ℕ → ℕ) → List Layer
+placed_layers registers at color =
+    let put : ℕ → List Layer → List Layer = λ k. placed_layer registers (at k) (color k) in
+    put 0 (put 1 (put 2 (put 3 [])))
 
-small_rest : (bg : ℕ) (rest : List ℕ) → small (bg ∷ rest) ≡ true → small rest ≡ true
-unfolding small
-small_rest bg rest t = (and_both (ltb bg 4) (small rest) t).1
+-- What place k of an array holds.
+abbrev pub number_at : List (Option Background) → ℕ → Option ℕ
+number_at at k = number_in (get_or at k None)
+
+-- The colour of what a place holds; where it holds none, any serves.
+abbrev pub color_in : (ℕ → ℕ) → Option ℕ → ℕ
+color_in color None = color 0
+color_in color (Some bg) = color bg
 
 module _ (registers : List ℕ) (color : ℕ → ℕ) where
-  layer_of : ℕ → Layer
-  layer_of bg = background registers bg (color bg)
+  layers_in : List (Option ℕ) → List Layer
+  layers_in held = placed_layers registers (λ k. get_or held k None) (λ k. color_in color (get_or held k None))
 
-  -- A place that holds a background, before the others.
-  more : (bg : ℕ) (l : List ℕ) {rest layers : List Layer} → small (bg ∷ l) ≡ true → rest ≡ layers
-      → placed_layer registers bg (color bg) rest ≡ layer_of bg ∷ layers
-  unfolding placed_layer layer_of small
-  more bg l t rest-is = rw ((and_both (ltb bg 4) (small l) t).0, rest-is)
-
-  placed_layers-places : (order : List ℕ) → length order ≤ 4 → small order ≡ true
-      → placed_layers registers (places order) (color (get_or order 0 4)) (color (get_or order 1 4)) (color (get_or order 2 4))
-      (color (get_or order 3 4))
-      ≡ map layer_of order
-  unfolding placed_layers places placed_layer
-  placed_layers-places [] few t = refl
-  placed_layers-places (p ∷ []) few t = more p _ t refl
-  placed_layers-places (p ∷ q ∷ []) few t = more p _ t (more q _ (small_rest p _ t) refl)
-  placed_layers-places (p ∷ q ∷ r ∷ []) few t =
-      let u = small_rest p _ t in more p _ t (more q _ u (more r _ (small_rest q _ u) refl))
-  placed_layers-places (p ∷ q ∷ r ∷ s ∷ []) few t =
-      let u = small_rest p _ t in
-      let v = small_rest q _ u in
-      more p _ t (more q _ u (more r _ v (more s _ (small_rest r _ v) refl)))
-  placed_layers-places (p ∷ q ∷ r ∷ s ∷ x ∷ l) few t = absurd (omega arith)
+  layers_in-places : (order : List ℕ) → length order ≤ 4
+      → layers_in (places order) ≡ map (λ bg. background registers bg (color bg)) order
+  unfolding layers_in placed_layers places placed_layer
+  layers_in-places [] few = refl
+  layers_in-places (p ∷ []) few = refl
+  layers_in-places (p ∷ q ∷ []) few = refl
+  layers_in-places (p ∷ q ∷ r ∷ []) few = refl
+  layers_in-places (p ∷ q ∷ r ∷ s ∷ []) few = refl
+  layers_in-places (p ∷ q ∷ r ∷ s ∷ x ∷ l) few = absurd (omega arith)
 
   -- The layers of the places are the backgrounds in their order.
-  pub placed_layers-ordered : {at : List ℕ} → at ≡ places (ordered registers)
-      → placed_layers registers at (color (get_or at 0 0)) (color (get_or at 1 0)) (color (get_or at 2 0)) (color (get_or at 3 0))
-      ≡ backgrounds registers color
-  unfolding places layer_of
-  placed_layers-ordered at-is =
-      rw at-is (placed_layers-places (ordered registers) (length-ordered registers) (small-ordered registers))
+  pub placed_layers-ordered : (at : List (Option Background)) → map number_in at ≡ places (ordered registers)
+      → placed_layers registers (number_at at) (λ k. color_in color (number_at at k)) ≡ backgrounds registers color
+  unfolding layers_in placed_layers
+  placed_layers-ordered at at-is =
+      rw (held 0, held 1, held 2, held 3) (layers_in-places (ordered registers) (length-ordered registers))
+    where
+      held : (k : ℕ) → number_at at k ≡ get_or (places (ordered registers)) k None
+      held k = sym (get_or-map number_in at k None) ∙ ap (λ l. get_or l k None) at-is

@@ -6,6 +6,8 @@ use mathlib.Core.Path.{◌≡◌, refl, ap}
 use mathlib.Core.Bool.{Bool, true, false, ◌&&◌}
 use mathlib.Core.List.{List}
 use lib.Dec.{eqb}
+use Rattle.std.specs.Prelude.{Option, None}
+use Rattle.sfx_sorting.specs.declared.background.Background.{Background}
 use lib.ListN.{get_or}
 use borrow.Author.Tests.{eqb-true, eqb-false}
 use Rattle.bits.specs.Bits.{bits, bit}
@@ -76,21 +78,22 @@ module _ (registers : List ℕ) (semi : Bool) where
 -- ---- the word of a region
 
 -- What can be read from a region's word.
-pub record RegionBits (objects : Bool) (at : List ℕ) (flags w : ℕ) : Type 0 where
-  pub place0_is : bit 0 w ≡ permits_place flags (get_or at 0 0)
-  pub place1_is : bit 1 w ≡ permits_place flags (get_or at 1 0)
-  pub place2_is : bit 2 w ≡ permits_place flags (get_or at 2 0)
-  pub place3_is : bit 3 w ≡ permits_place flags (get_or at 3 0)
+pub record RegionBits (objects : Bool) (at : List (Option Background)) (flags w : ℕ) : Type 0 where
+  pub place0_is : bit 0 w ≡ permits_place flags (get_or at 0 None)
+  pub place1_is : bit 1 w ≡ permits_place flags (get_or at 1 None)
+  pub place2_is : bit 2 w ≡ permits_place flags (get_or at 2 None)
+  pub place3_is : bit 3 w ≡ permits_place flags (get_or at 3 None)
   pub objects_is : bit objects_bit w ≡ permits_objects flags && objects
   pub effects_is : bit effects_bit w ≡ permits_effects flags
 
-pub region-bits : (objects : Bool) (at : List ℕ) (flags : ℕ) → RegionBits objects at flags (region_word objects at flags)
+pub region-bits : (objects : Bool) (at : List (Option Background)) (flags : ℕ)
+    → RegionBits objects at flags (region_word objects at flags)
 unfolding region_word
 region-bits objects at flags =
-    let place0≤ = as_bit_bound (permits_place flags (get_or at 0 0)) in
-    let place1≤ = as_bit_bound (permits_place flags (get_or at 1 0)) in
-    let place2≤ = as_bit_bound (permits_place flags (get_or at 2 0)) in
-    let place3≤ = as_bit_bound (permits_place flags (get_or at 3 0)) in
+    let place0≤ = as_bit_bound (permits_place flags (get_or at 0 None)) in
+    let place1≤ = as_bit_bound (permits_place flags (get_or at 1 None)) in
+    let place2≤ = as_bit_bound (permits_place flags (get_or at 2 None)) in
+    let place3≤ = as_bit_bound (permits_place flags (get_or at 3 None)) in
     let objects≤ = as_bit_bound (permits_objects flags && objects) in
     let effects≤ = as_bit_bound (permits_effects flags) in
     let w = region_word objects at flags in

@@ -1,17 +1,17 @@
 // The layers of a column (gpu/layer.rs), each as two halfwords, which a loop over columns chooses between without branches.
-ghost use Rattle.std.specs.Prelude.{◌≡◌, ◌≤◌, length};
-ghost use Rattle.memory.specs.Sizes.{palette_ram_size, registers_size};
-ghost use Rattle.sfx_layers.specs.Code.{as_bit, mode_number, layer_tag, object_tag, place_tag, LineLayersOf};
+ghost use Rattle.std.specs.Prelude.{◌≡◌, ◌≤◌, ◌<◌, get_or, None};
+ghost use Rattle.sfx_layers.specs.Code.{as_bit, layer_tag, object_tag, place_tag, LineLayersOf};
 ghost use Rattle.sfx_layers.specs.Code.{is_seen, put_background, background_pair, put_object, column_pair};
 
-use crate::region::{OBJECTS, PLACE0, PLACE1, PLACE2, PLACE3};
-use memory::read_backdrop;
+use crate::region::{OBJECTS, is_permitted};
+use memory::{Memory, Registers, read_backdrop};
 use obj_entries::Entry;
 use regs::iodev::read_bgcnt;
 use regs_blend::{BlendControl, BlendMode, RenderLayerKind, read_bldcnt};
 use rgb15::Rgb15;
 use rows::choose;
-use sfx_sorting::NO_BACKGROUND;
+use sfx_sorting::Background;
+use std::array;
 
 // The parts of a layer's tag: whether it is a first target, a second target, a semi-transparent object; above, the priority.
 pub const FIRST_TARGET: u16 = 0x1;
@@ -21,15 +21,6 @@ pub const SECOND_TARGET: u16 = 0x2;
 pub const SEMI_OBJECT: u16 = 0x4;
 
 const PRIORITY: u16 = 0x8;
-
-// The numbers of a control's effects.
-const MODE_NONE: u16 = 0;
-
-pub const MODE_ALPHA: u16 = 1;
-
-pub const MODE_WHITE: u16 = 2;
-
-const MODE_BLACK: u16 = 3;
 
 // The top and the bottom layer of a column, the colour and the tag of each. No layer is passed on or chosen whole: the
 // compiler would take its two halfwords for one word, of which a vector holds half as many.
@@ -42,24 +33,21 @@ pub struct LayerPair {
 }
 
 // What a line's layers have in common at every column: the tag of each place's background, that of objects, the backdrop,
-// and the number of the control's effect.
+// and the control's effect.
 #[derive(Clone, Copy)]
 pub struct LineLayers {
-    pub place0: u16,
-    pub place1: u16,
-    pub place2: u16,
-    pub place3: u16,
+    pub places: [u16; 4],
     pub object: u16,
     pub backdrop: u16,
     pub backdrop_tag: u16,
-    pub mode: u16,
+    pub mode: BlendMode,
 }
 
 // A truth value as a bit.
 pub(crate) fn bit_of(set: bool) -> u16
     ensures { (result ≡ as_bit set) × (result ≤ 1) }
 {
-    if set { 1 } else { 0 }
+    u16::from(set)
 }
 
 // All of a layer but its colour.
@@ -72,47 +60,37 @@ fn layer_tag(control: BlendControl, kind: RenderLayerKind, priority: u16) -> u16
     FIRST_TARGET * first + SECOND_TARGET * second + PRIORITY * priority
 }
 
-// The number of a control's effect.
-fn mode_number(mode: BlendMode) -> u16
-    ensures { result ≡ mode_number mode }
+// The tag of the background in place k; 0 if it has none.
+#[tactic(auto, unfolding(crate::specs::Code::place_tag))]
+fn place_tag(
+    registers: &Registers,
+    control: BlendControl,
+    places: [Option<Background>; 4],
+    k: usize,
+) -> u16
+    requires { k < 4 }
+    ensures { result ≡ place_tag registers.now control.target1.0 control.target2.0 (get_or places k None) }
 {
-    match mode {
-        BlendMode::BldNone => MODE_NONE,
-        BlendMode::BldAlpha => MODE_ALPHA,
-        BlendMode::BldWhite => MODE_WHITE,
-        BlendMode::BldBlack => MODE_BLACK,
+    match places[k] {
+        Some(bg) => {
+            let priority = read_bgcnt(registers, bg.number).priority;
+            layer_tag(control, RenderLayerKind::background(bg.number), priority)
+        }
+        None => 0,
     }
 }
 
-// The tag of the background in a place; 0 if it has none.
-fn place_tag(registers: &[u8], control: BlendControl, place: usize) -> u16
-    requires { length registers.now ≡ registers_size }
-    ensures { result ≡ place_tag registers.now control.target1.0 control.target2.0 place }
+// A line's layers, for its places.
+pub fn line_layers(memory: &Memory, places: [Option<Background>; 4]) -> LineLayers
+    ensures { LineLayersOf memory.now.palette memory.now.registers places result }
 {
-    if place < NO_BACKGROUND {
-        let priority = read_bgcnt(registers, place).priority;
-        layer_tag(control, RenderLayerKind::background(place), priority)
-    } else {
-        0
-    }
-}
-
-// A line's layers, for its palette, its registers and its places.
-pub fn line_layers(palette: &[u8], registers: &[u8], places: [usize; 4]) -> LineLayers
-    requires { (length palette.now ≡ palette_ram_size) × (length registers.now ≡ registers_size) }
-    ensures { LineLayersOf palette.now registers.now places result }
-{
-    let control = read_bldcnt(registers);
-    let mode = control.mode;
+    let control = read_bldcnt(memory.registers);
     LineLayers {
-        place0: place_tag(registers, control, places[0]),
-        place1: place_tag(registers, control, places[1]),
-        place2: place_tag(registers, control, places[2]),
-        place3: place_tag(registers, control, places[3]),
+        places: array::from_fn(|k| place_tag(memory.registers, control, places, k)),
         object: layer_tag(control, RenderLayerKind::Objects, 0),
-        backdrop: read_backdrop(palette).0,
+        backdrop: read_backdrop(memory.palette).0,
         backdrop_tag: layer_tag(control, RenderLayerKind::Backdrop, 4),
-        mode: mode_number(mode),
+        mode: control.mode,
     }
 }
 
@@ -121,7 +99,7 @@ pub fn object_tag(tag: u16, e: Entry) -> u16
     requires { tag ≤ 3 }
     ensures { result ≡ object_tag tag e }
 {
-    tag + SEMI_OBJECT * (e.marks % 2) as u16 + PRIORITY * (e.priority as u16)
+    tag + SEMI_OBJECT * u16::from(e.marks % 2) + PRIORITY * u16::from(e.priority)
 }
 
 // Whether a pixel is permitted and opaque.
@@ -146,15 +124,8 @@ fn put_background(behind: LayerPair, permitted: bool, tag: u16, color: u16) -> L
 
 // The layers of a column's backgrounds, put from the last place to the first: the first two that count, the backdrop
 // filling in.
-fn background_pair(
-    line: LineLayers,
-    region: u16,
-    color0: Rgb15,
-    color1: Rgb15,
-    color2: Rgb15,
-    color3: Rgb15,
-) -> LayerPair
-    ensures { result ≡ background_pair line region color0.0 color1.0 color2.0 color3.0 }
+fn background_pair(line: LineLayers, region: u16, colors: [Rgb15; 4]) -> LayerPair
+    ensures { result ≡ background_pair line region colors }
 {
     let back = LayerPair {
         top: line.backdrop,
@@ -162,10 +133,10 @@ fn background_pair(
         bottom: line.backdrop,
         bottom_tag: line.backdrop_tag,
     };
-    let fourth = put_background(back, region / PLACE3 % 2 == 1, line.place3, color3.0);
-    let third = put_background(fourth, region / PLACE2 % 2 == 1, line.place2, color2.0);
-    let second = put_background(third, region / PLACE1 % 2 == 1, line.place1, color1.0);
-    put_background(second, region / PLACE0 % 2 == 1, line.place0, color0.0)
+    let fourth = put_background(back, is_permitted(region, 3), line.places[3], colors[3].0);
+    let third = put_background(fourth, is_permitted(region, 2), line.places[2], colors[2].0);
+    let second = put_background(third, is_permitted(region, 1), line.places[1], colors[1].0);
+    put_background(second, is_permitted(region, 0), line.places[0], colors[0].0)
 }
 
 // An object's pixel, if it is shown: on top if its priority is at most the top's, else second if at most the bottom's.
@@ -193,13 +164,10 @@ pub fn column_pair(
     region: u16,
     tag: u16,
     object: u16,
-    color0: Rgb15,
-    color1: Rgb15,
-    color2: Rgb15,
-    color3: Rgb15,
+    colors: [Rgb15; 4],
 ) -> LayerPair
-    ensures { result ≡ column_pair line region tag object color0.0 color1.0 color2.0 color3.0 }
+    ensures { result ≡ column_pair line region tag object colors }
 {
-    let backgrounds = background_pair(line, region, color0, color1, color2, color3);
-    put_object(backgrounds, region / OBJECTS % 2 == 1, tag, object)
+    let backgrounds = background_pair(line, region, colors);
+    put_object(backgrounds, is_permitted(region, OBJECTS), tag, object)
 }

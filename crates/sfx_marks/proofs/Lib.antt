@@ -3,5 +3,5 @@
 --
 -- A law's name is what is read, what was done, and the case, by the suffixes of `rows`.
 pub mod Bits
-pub mod Marks
+pub mod Marked
 pub mod Paints

@@ -17,7 +17,7 @@ use Rattle.rows.proofs.Tab.{length-tab, get_or-tab, get_or-of-tab, tab_cong, tab
 use Rattle.rows.proofs.Tabbed.{mapped-from, mapped-inside, mapped_to}
 use Rattle.sfx_marks.specs.Code.{is_set, marked, marked_in, given_row}
 use Rattle.sfx_marks.proofs.Bits.{is_set_none, is_set_shift, is_set_low}
-use Rattle.sfx_marks.proofs.Marks.{marked-word}
+use Rattle.sfx_marks.proofs.Marked.{marked-word}
 
 -- ---- a row with columns of another
 

@@ -4,7 +4,7 @@ use Rattle.std.specs.Prelude.{ℕ, ◌-◌, ◌/◌, ◌%◌, ◌^◌, ◌≤◌
 use Rattle.rows.specs.Below.{between, count_below}
 use Rattle.rows.specs.Cells.{only}
 use Rattle.rows.specs.Tab.{map_tab}
-use Rattle.sfx_marks.specs.declared.Columns.{Columns}
+use Rattle.sfx_marks.specs.declared.columns.Columns.{Columns}
 
 -- Whether bit i of a word is set.
 unfoldable pub is_set : ℕ → ℕ → Bool
@@ -26,14 +26,8 @@ Clean ws = get_or ws 3 0 < 2 ^ 48
 abbrev pub holds : Columns → ℕ → Bool
 holds c k = between c.left c.right k
 
--- Columns lie on the line, the left edge not past the right one.
-pub record Spanned (c : Columns) : Type 0 where
-  pub ordered : c.left ≤ c.right
-  pub bound : c.right ≤ 240
-
 -- Marks are those of the columns that the test picks.
 pub record MarksOf (test : ℕ → Bool) (ws : List ℕ) : Type 0 where
-  pub clean : Clean ws
   pub same : (k : ℕ) → k < 240 → marked ws k ≡ test k
 
 -- The columns from first on and before end are whole eights of the line.

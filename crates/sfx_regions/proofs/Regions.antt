@@ -13,7 +13,7 @@ use Rattle.regs.specs.declared.reading.Reading.{Reading}
 use Rattle.obj_entries.specs.Entry.{entry_cells, window_mark}
 use Rattle.sfx_regions.specs.Region.{region, uses_windows, in_window0, in_window1}
 use Rattle.sfx_regions.specs.Code.{word_in, region_row, ColumnsOf, walked_word, walked_row}
-use Rattle.sfx_marks.specs.declared.Columns.{Columns}
+use Rattle.sfx_marks.specs.declared.columns.Columns.{Columns}
 use Rattle.sfx_regions.specs.declared.RegionWords.{RegionWords}
 use Rattle.sfx_regions.specs.declared.WindowType.{WindowType}
 use Rattle.sfx_regions.specs.declared.WindowType.TheVariants.{Win0, Win1, WinObj, WinOut, WinNone}

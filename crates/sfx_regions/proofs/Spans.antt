@@ -4,34 +4,30 @@ use native.Mathlib.Omega.{arith}
 use mathlib.Core.Path.{◌≡◌, refl, sym, ap, ap₂, ◌∙◌}
 use mathlib.Core.Bool.{Bool, true, false, ◌&&◌, false≢true}
 use lib.Dec.{leb, ltb}
-use borrow.Author.Tests.{ltb-true, ltb-false}
+use borrow.Author.Tests.{ltb-false}
 use Rattle.rows.specs.Below.{between}
 use Rattle.rows.proofs.Below.{between-past}
 use Rattle.regs_window.specs.Windows.{window_left, window_right, window_top, window_bottom, WindowOf, right_edge, in_columns, in_rows}
 use Rattle.regs_window.specs.declared.Window.{Window}
 use Rattle.regs_window.proofs.Laws.{inside_none}
 use Rattle.sfx_regions.specs.Code.{ColumnsOf}
-use Rattle.sfx_marks.specs.declared.Columns.{Columns}
+use Rattle.sfx_marks.specs.declared.columns.Columns.{Columns}
 
 -- The columns of a test that is the same.
 columns_of_cong : {p q : ℕ → Bool} {c : Columns} → ColumnsOf p c → ((k : ℕ) → p k ≡ q k) → ColumnsOf q c
-columns_of_cong h e = record { spanned = h.spanned; same = λ k. h.same k ∙ e k }
+columns_of_cong h e = record { same = λ k. h.same k ∙ e k }
 
 module _ (on : Bool) {t rows : Bool} (near far : ℕ) {l r : ℕ}
     (left_is : l ≡ near) (right_is : (r ≡ right_edge near far) × (r ≤ 240)) (rows_is : t ≡ rows) where
   tested : {b : Bool} → ((on && t) && ltb l r) ≡ b → ((on && rows) && ltb l r) ≡ b
   tested e = sym (ap (λ (s : Bool). (on && s) && ltb l r) rows_is) ∙ e
 
-  columns_some : (b : Bool) → (b && ltb l r) ≡ true
-      → ColumnsOf (λ k. b && in_columns near far k) (record { left = l; right = r })
+  columns_some : {c : Columns} → (b : Bool) → c.left ≡ l → c.right ≡ r → (b && ltb l r) ≡ true
+      → ColumnsOf (λ k. b && in_columns near far k) c
   unfolding between
-  columns_some true e =
-      let lt = ltb-true l r e in
-      record {
-        spanned = record { ordered = omega arith; bound = right_is.1 };
-        same = λ k. ap₂ (λ (a b : ℕ). leb a k && ltb k b) left_is right_is.0;
-      }
-  columns_some false e = absurd (false≢true e)
+  columns_some true from to e =
+      record { same = λ k. ap₂ (λ (a b : ℕ). leb a k && ltb k b) (from ∙ left_is) (to ∙ right_is.0) }
+  columns_some false from to e = absurd (false≢true e)
 
   columns_none : (b : Bool) → (b && ltb l r) ≡ false → (k : ℕ) → (b && in_columns near far k) ≡ false
   columns_none true e k =
@@ -40,17 +36,16 @@ module _ (on : Bool) {t rows : Bool} (near far : ℕ) {l r : ℕ}
   columns_none false e k = refl
 
   -- A window that is on and whose rows hold the line claims its columns.
-  pub claimed_some : ((on && t) && ltb l r) ≡ true
-      → ColumnsOf (λ k. (on && rows) && in_columns near far k) (record { left = l; right = r })
-  claimed_some taken = columns_some (on && rows) (tested taken)
+  pub claimed_some : {c : Columns} → c.left ≡ l → c.right ≡ r → ((on && t) && ltb l r) ≡ true
+      → ColumnsOf (λ k. (on && rows) && in_columns near far k) c
+  claimed_some from to taken = columns_some (on && rows) from to (tested taken)
 
   -- Any other, and one with equal edges, claims none.
-  pub claimed_none : ((on && t) && ltb l r) ≡ false
-      → ColumnsOf (λ k. (on && rows) && in_columns near far k) (record { left = 0; right = 0 })
-  claimed_none untaken =
+  pub claimed_none : {c : Columns} → c.right ≡ 0 → ((on && t) && ltb l r) ≡ false
+      → ColumnsOf (λ k. (on && rows) && in_columns near far k) c
+  claimed_none {c} to untaken =
       record {
-        spanned = record { ordered = omega arith; bound = omega arith };
-        same = λ k. between-past 0 0 k (omega arith) ∙ sym (columns_none (on && rows) (tested untaken) k);
+        same = λ k. between-past c.left c.right k (omega (arith, to)) ∙ sym (columns_none (on && rows) (tested untaken) k);
       }
 
 -- The columns that a window claims, by its registers: a window's rows, and the columns of the same or another.

@@ -6,13 +6,14 @@ use mathlib.Core.Bool.{Bool, true, false, cond, not, ◌&&◌, ◌||◌}
 use mathlib.Core.List.{List}
 use lib.ListN.{replicate}
 use Rattle.rows.specs.Cells.{cell_at}
+use Rattle.rows.specs.Below.{between}
 use Rattle.rows.specs.Tab.{tab}
 use Rattle.rows.proofs.Below.{between-inside, count_below_full}
 use Rattle.rows.proofs.Tab.{tab_cong, tab_replicate}
 use Rattle.obj_entries.specs.Entry.{entry_cells, window_mark}
 use Rattle.sfx_marks.specs.Code.{marked, count_marks, holds, MarksOf, given_row}
 use Rattle.sfx_regions.specs.Code.{walked_word, walked_row}
-use Rattle.sfx_marks.specs.declared.Columns.{Columns}
+use Rattle.sfx_marks.specs.declared.columns.Columns.{Columns}
 use Rattle.sfx_regions.specs.declared.RegionWords.{RegionWords}
 use Rattle.sfx_marks.proofs.Paints.{tab-given}
 
@@ -63,7 +64,7 @@ module _ (entries : List ℕ) (objWindow : Bool) (win0 win1 : Columns) (words : 
 
     -- Some columns are left.
     pub walked_all : {line left rest all : List ℕ}
-        → MarksOf (holds (record { left = 0; right = 240 })) line
+        → MarksOf (between 0 240) line
         → MarksOf (λ k. marked line k && not (marked occupied k)) left
         → rest ≡ tab (λ k. cond (objWindow && window_mark (cell_at entry_cells entries k)) words.winobj words.winout) 240
         → all ≡ given_row (marked left) rest row

@@ -1,18 +1,18 @@
 -- As code has it: a line as a word a column, and the columns that each window claims (01, "Windows and blending"; GBATEK,
 -- "LCD I/O Window Feature").
 -- No exported contract reaches this file. Assumes nothing.
-use Rattle.std.specs.Prelude.{ℕ, List, length, ◌≡◌, Bool, cond, ◌&&◌}
+use Rattle.std.specs.Prelude.{ℕ, List, ◌≡◌, Bool, cond, ◌&&◌}
 use Rattle.rows.specs.Cells.{cell_at}
 use Rattle.rows.specs.Tab.{tab}
 use Rattle.memory.specs.Sizes.{display_width}
 use Rattle.regs.specs.declared.reading.Reading.{Reading}
-use Rattle.obj_entries.specs.Entry.{entries_size, entry_cells, window_mark}
+use Rattle.obj_entries.specs.Entry.{entry_cells, window_mark}
 use Rattle.sfx_regions.specs.Region.{region}
 use Rattle.sfx_regions.specs.declared.RegionWords.{RegionWords}
 use Rattle.sfx_regions.specs.declared.WindowType.{WindowType}
 use Rattle.sfx_regions.specs.declared.WindowType.TheVariants.{Win0, Win1, WinObj, WinOut, WinNone}
-use Rattle.sfx_marks.specs.Code.{holds, Spanned}
-use Rattle.sfx_marks.specs.declared.Columns.{Columns}
+use Rattle.sfx_marks.specs.Code.{holds}
+use Rattle.sfx_marks.specs.declared.columns.Columns.{Columns}
 
 -- The word of a region.
 unfoldable pub word_in : RegionWords → WindowType → ℕ
@@ -34,14 +34,7 @@ region_row reading registers entries line words =
 
 -- Columns are those that the test picks.
 pub record ColumnsOf (test : ℕ → Bool) (c : Columns) : Type 0 where
-  pub spanned : Spanned c
   pub same : (k : ℕ) → holds c k ≡ test k
-
--- What the walk over windows needs: entries for its columns, and both windows' columns on the line.
-pub record Walkable (entries : List ℕ) (win0 win1 : Columns) : Type 0 where
-  pub entries-size : length entries ≡ entries_size
-  pub win0_spanned : Spanned win0
-  pub win1_spanned : Spanned win1
 
 -- A column's word with windows on: of the first of window 0's columns, window 1's, and the object window that hold it.
 unfoldable pub walked_word : List ℕ → Bool → Columns → Columns → RegionWords → ℕ → ℕ

@@ -2,23 +2,23 @@
 
 #![tactic(auto)]
 
-ghost use Rattle.std.specs.Prelude.{◌≡◌, cond, ◌&&◌, ◌<◌, length};
+ghost use Rattle.std.specs.Prelude.{◌≡◌, cond, ◌&&◌, ◌<◌};
 ghost use Rattle.rows.specs.Cells.{cell_at};
 ghost use Rattle.rows.specs.Tab.{tab};
-ghost use Rattle.memory.specs.Sizes.{registers_size};
 ghost use Rattle.regs_window.specs.Windows.{in_columns, in_rows};
-ghost use Rattle.obj_entries.specs.Entry.{entries_size, entry_cells, window_mark};
+ghost use Rattle.obj_entries.specs.Entry.{entry_cells, window_mark};
 ghost use Rattle.sfx_regions.specs.Region.{permitted, in_window0, in_window1};
-ghost use Rattle.sfx_regions.specs.Code.{region_row, ColumnsOf, Walkable, walked_row};
+ghost use Rattle.sfx_regions.specs.Code.{region_row, ColumnsOf, walked_row};
 
-use memory::DISPLAY_WIDTH;
-use obj_entries::entry_at;
+use memory::{DISPLAY_WIDTH, Registers};
+use obj_entries::{Entries, entry_at};
 use regs::Reading;
 use regs::iodev::read_dispcnt;
 use regs_window::{
     Window, WindowFlags, read_win0, read_win1, read_winobj_flags, read_winout_flags,
 };
-use sfx_marks::{Columns, count_marks, free_marks, joined, marks_of, paint};
+use sfx_marks::{Columns, Marks, paint};
+use std::array;
 
 // The Rust's kinds of window: a column's region.
 #[derive(Clone, Copy)]
@@ -41,8 +41,7 @@ pub struct RegionWords {
 }
 
 // What a region permits.
-pub fn window_flags(registers: &[u8], kind: WindowType) -> WindowFlags
-    requires { length registers.now ≡ registers_size }
+pub fn window_flags(registers: &Registers, kind: WindowType) -> WindowFlags
     ensures { result.0 ≡ permitted registers.now kind }
 {
     match kind {
@@ -61,15 +60,13 @@ fn claimed_columns(on: bool, rows: Window, columns: Window, line: usize) -> Colu
     let left = columns.left();
     let right = columns.right();
     if on & rows.contains_y(line) & (left < right) {
-        Columns { left, right }
-    } else {
-        Columns { left: 0, right: 0 }
+        return Columns { left, right };
     }
+    Columns { left: 0, right: 0 }
 }
 
 // The columns that window 0 claims.
-fn win0_columns(registers: &[u8], line: usize) -> Columns
-    requires { length registers.now ≡ registers_size }
+pub fn win0_columns(registers: &Registers, line: usize) -> Columns
     ensures { ColumnsOf (λ x. in_window0 registers.now x line) result }
 {
     let dispcnt = read_dispcnt(registers);
@@ -78,8 +75,7 @@ fn win0_columns(registers: &[u8], line: usize) -> Columns
 }
 
 // The columns that window 1 claims; the Rust tests its rows, and then walks window 0's columns.
-fn win1_columns(registers: &[u8], reading: Reading, line: usize) -> Columns
-    requires { length registers.now ≡ registers_size }
+pub fn win1_columns(registers: &Registers, reading: Reading, line: usize) -> Columns
     ensures { ColumnsOf (λ x. in_window1 reading registers.now x line) result }
 {
     let dispcnt = read_dispcnt(registers);
@@ -92,8 +88,8 @@ fn win1_columns(registers: &[u8], reading: Reading, line: usize) -> Columns
 }
 
 // The word of a column in the object window or outside, by the entry's mark.
-fn unclaimed_word(entries: &[u8], x: usize, winobj: u16, winout: u16) -> u16
-    requires { (length entries.now ≡ entries_size) × (x < 240) }
+fn unclaimed_word(entries: &Entries, x: usize, winobj: u16, winout: u16) -> u16
+    requires { x < 240 }
     ensures { result ≡ cond (window_mark (cell_at entry_cells entries.now x)) winobj winout }
 {
     let e = entry_at(entries, x);
@@ -105,66 +101,63 @@ fn unclaimed_word(entries: &[u8], x: usize, winobj: u16, winout: u16) -> u16
 }
 
 // The row of a line on which windows 0 and 1 claim nothing.
-fn unclaimed_row(entries: &[u8], obj_window: bool, winobj: u16, winout: u16) -> [u16; DISPLAY_WIDTH]
-    requires { length entries.now ≡ entries_size }
+fn unclaimed_row(
+    entries: &Entries,
+    obj_window: bool,
+    winobj: u16,
+    winout: u16,
+) -> [u16; DISPLAY_WIDTH]
     ensures { result ≡ tab (λ x. cond (obj_window && window_mark (cell_at entry_cells entries.now x)) winobj winout) 240 }
 {
-    let mut row = [winout; DISPLAY_WIDTH];
-    if !obj_window {
-        return row;
+    if obj_window {
+        array::from_fn(|x| unclaimed_word(entries, x, winobj, winout))
+    } else {
+        [winout; DISPLAY_WIDTH]
     }
-    let mut x: usize = 0;
-    while x < DISPLAY_WIDTH {
-        row[x] = unclaimed_word(entries, x, winobj, winout);
-        x += 1;
-    }
-    row
 }
 
 // The row of a line with windows on. Each column starts as window 0's and is given away once at most, by the marks: what window 1
 // has and window 0 hasn't, and then what neither has. Once the occupied columns are all 240, nothing is left to give.
 fn windowed_row(
-    entries: &[u8],
+    entries: &Entries,
     obj_window: bool,
     win0: Columns,
     win1: Columns,
     words: RegionWords,
 ) -> [u16; DISPLAY_WIDTH]
-    requires { Walkable entries.now win0 win1 }
     ensures { result ≡ walked_row entries.now obj_window win0 win1 words }
 {
     let word0 = words.win0;
     let word1 = words.win1;
-    let first = marks_of(win0);
+    let first = Marks::of(win0);
     let mut row = [word0; DISPLAY_WIDTH];
-    if count_marks(first) as usize == DISPLAY_WIDTH {
+    if first.count() as usize == DISPLAY_WIDTH {
         return row;
     }
-    let second = free_marks(marks_of(win1), first);
-    let words1 = [word1; DISPLAY_WIDTH];
-    paint(&mut row, second, &words1);
-    let occupied = joined(first, second);
-    if count_marks(occupied) as usize == DISPLAY_WIDTH {
+    let second = Marks::of(win1).without(first.words);
+    paint(&mut row, second.words, &[word1; DISPLAY_WIDTH]);
+    let occupied = first.or(second);
+    if occupied.count() as usize == DISPLAY_WIDTH {
         return row;
     }
     let line = Columns {
         left: 0,
         right: DISPLAY_WIDTH,
     };
+    let left = Marks::of(line).without(occupied.words);
     let rest = unclaimed_row(entries, obj_window, words.winobj, words.winout);
-    paint(&mut row, free_marks(marks_of(line), occupied), &rest);
+    paint(&mut row, left.words, &rest);
     row
 }
 
 // The row of a line: the word of each column's region.
 pub fn region_row(
-    entries: &[u8],
-    registers: &[u8],
+    entries: &Entries,
+    registers: &Registers,
     reading: Reading,
     line: usize,
     words: RegionWords,
 ) -> [u16; DISPLAY_WIDTH]
-    requires { (length entries.now ≡ entries_size) × (length registers.now ≡ registers_size) }
     ensures { result ≡ region_row reading registers.now entries.now line words }
 {
     let dispcnt = read_dispcnt(registers);

@@ -1,7 +1,8 @@
 -- Laws of the order of backgrounds: the exchanges of code give it. No contract cites this file. Assumes nothing.
-use Prim.Native.Nat.{ℕ, ◌+◌, ◌*◌, ◌≤◌, ◌<◌, min, max}
+use Prim.Native.Nat.{ℕ, ◌+◌, ◌*◌, ◌≤◌, ◌<◌}
 use native.Mathlib.Omega.{arith}
-use mathlib.Core.Path.{◌≡◌, refl, sym, ap₂}
+use mathlib.Core.Path.{◌≡◌, refl, sym, ap, ap₂}
+use Rattle.std.specs.Prelude.{Option, Some, None}
 use mathlib.Core.Bool.{Bool, true, false, cond, ◌&&◌}
 use mathlib.Core.List.{List, [], ◌∷◌, ◌++◌, map}
 use lib.Dec.{eqb, leb, ltb}
@@ -75,29 +76,43 @@ unfoldable pub small : List ℕ → Bool
 small [] = true
 small (bg ∷ rest) = ltb bg 4 && small rest
 
--- Whether two lists are the same.
-same : List ℕ → List ℕ → Bool
+-- Whether two places hold the same.
+same_place : Option ℕ → Option ℕ → Bool
+same_place None None = true
+same_place None (Some b) = false
+same_place (Some a) None = false
+same_place (Some a) (Some b) = eqb a b
+
+same_place_is : (p q : Option ℕ) → same_place p q ≡ true → p ≡ q
+unfolding same_place
+same_place_is None None t = refl
+same_place_is None (Some b) t = cc
+same_place_is (Some a) None t = cc
+same_place_is (Some a) (Some b) t = ap Some (eqb-true a b t)
+
+-- Whether two lists of places are the same.
+same : List (Option ℕ) → List (Option ℕ) → Bool
 same [] [] = true
 same [] (b ∷ m) = false
 same (a ∷ l) [] = false
-same (a ∷ l) (b ∷ m) = eqb a b && same l m
+same (a ∷ l) (b ∷ m) = same_place a b && same l m
 
-same_is : (l m : List ℕ) → same l m ≡ true → l ≡ m
+same_is : (l m : List (Option ℕ)) → same l m ≡ true → l ≡ m
 unfolding same
 same_is [] [] t = refl
 same_is [] (b ∷ m) t = cc
 same_is (a ∷ l) [] t = cc
 same_is (a ∷ l) (b ∷ m) t =
-    let both = and_both (eqb a b) (same l m) t in
-    ap₂ ◌∷◌ (eqb-true a b both.0) (same_is l m both.1)
+    let both = and_both (same_place a b) (same l m) t in
+    ap₂ ◌∷◌ (same_place_is a b both.0) (same_is l m both.1)
 
 -- The places that code makes of four ranks.
-places_of : ℕ → ℕ → ℕ → ℕ → List ℕ
+places_of : ℕ → ℕ → ℕ → ℕ → List (Option ℕ)
 places_of a b c d = map key_place (sorted_keys (4 * a + 0) (4 * b + 1) (4 * c + 2) (4 * d + 3))
 
 -- They are those of the order, which has at most four backgrounds.
 places-all : all_ranks (λ a b c d. same (places_of a b c d) (places (order_of a b c d))) ≡ true
-unfolding all_ranks all_below same places_of sorted_keys places order_of at_rank four keep
+unfolding all_ranks all_below same same_place places_of sorted_keys places order_of at_rank four keep
 places-all = refl
 
 few-all : all_ranks (λ a b c d. small (order_of a b c d) && leb (length (order_of a b c d)) 4) ≡ true
@@ -106,18 +121,8 @@ few-all = refl
 
 -- ---- the order
 
--- The keys that ten calls put in order.
-pub sorted_keys_are : (a b c d : ℕ) {e f g h i j p q r s : ℕ}
-    → e ≡ min a b → f ≡ max a b → g ≡ min c d → h ≡ max c d
-    → i ≡ max e g → j ≡ min f h
-    → p ≡ min e g → q ≡ min i j → r ≡ max i j → s ≡ max f h
-    → p ∷ q ∷ r ∷ s ∷ [] ≡ sorted_keys a b c d
-unfolding sorted_keys
-sorted_keys_are a b c d e-is f-is g-is h_is i-is j-is p-is q-is r-is s-is =
-    rw (p-is, q-is, r-is, s-is, i-is, j-is, e-is, f-is, g-is, h_is)
-
 -- The places that code makes are those of the order.
-pub places_sorted : (registers : List ℕ) {on : List Bool} {a b c d p q r s : ℕ} {keys : List ℕ}
+pub places_sorted : (registers : List ℕ) {on : List Bool} {a b c d : ℕ} {keys : List ℕ} {p q r s : Option ℕ}
     → on ≡ enable_bg (dispcnt registers)
     → a ≡ sort_key (get_or on 0 false) (priority (bgcnt registers 0)) 0
     → b ≡ sort_key (get_or on 1 false) (priority (bgcnt registers 1)) 1

@@ -1,10 +1,16 @@
 -- As code has it: backgrounds ordered in four places (01, "What must change shape"; GBATEK, "LCD I/O BG Control").
 -- No exported contract reaches this file. Assumes nothing.
-use Rattle.std.specs.Prelude.{ℕ, ◌+◌, ◌*◌, ◌%◌, min, max, List, [], ◌∷◌, get_or, Bool, cond, ltb}
+use Rattle.std.specs.Prelude.{ℕ, ◌+◌, ◌*◌, ◌%◌, min, max, List, [], ◌∷◌, slice_get, Option, Some, None, Bool, cond, ltb}
+use Rattle.sfx_sorting.specs.declared.background.Background.{Background}
 
--- A list of backgrounds in four places, of which one with none holds 4.
-unfoldable pub places : List ℕ → List ℕ
-places order = get_or order 0 4 ∷ get_or order 1 4 ∷ get_or order 2 4 ∷ get_or order 3 4 ∷ []
+-- The number of the background in a place, if it holds one.
+abbrev pub number_in : Option Background → Option ℕ
+number_in None = None
+number_in (Some bg) = Some bg.number
+
+-- A list of backgrounds in four places.
+unfoldable pub places : List ℕ → List (Option ℕ)
+places order = slice_get order 0 ∷ slice_get order 1 ∷ slice_get order 2 ∷ slice_get order 3 ∷ []
 
 -- What a background is sorted by: its priority, or 4 if it is off, and then its number.
 abbrev pub sort_key : Bool → ℕ → ℕ → ℕ
@@ -19,6 +25,6 @@ sorted_keys a b c d =
     ∷ max (max a b) (max c d)
     ∷ []
 
--- The background of a key, or 4 if it is off.
-abbrev pub key_place : ℕ → ℕ
-key_place key = cond (ltb key 16) (key % 4) 4
+-- The background of a key, if it is on.
+abbrev pub key_place : ℕ → Option ℕ
+key_place key = cond (ltb key 16) (Some (key % 4)) None

@@ -2,79 +2,63 @@
 
 #![tactic(auto)]
 
-ghost use Rattle.std.specs.Prelude.{◌≡◌, ◌<◌, min, max, length};
-ghost use Rattle.memory.specs.Sizes.{registers_size};
-ghost use Rattle.regs.specs.Registers.{dispcnt, bgcnt};
-ghost use Rattle.regs.specs.Display.{DisplayControlOf};
+ghost use Rattle.std.specs.Prelude.{◌≡◌, ◌<◌, min, max, map};
+ghost use Rattle.regs.specs.Registers.{bgcnt};
 ghost use Rattle.regs.specs.Background.{priority};
 ghost use Rattle.sfx_sorting.specs.Ordered.{ordered};
-ghost use Rattle.sfx_sorting.specs.Code.{places, sort_key, sorted_keys, key_place};
+ghost use Rattle.sfx_sorting.specs.Code.{number_in, places, sort_key, sorted_keys, key_place};
 
-use regs::DisplayControl;
-use regs::iodev::read_bgcnt;
+mod background;
 
-// What a place without a background holds.
-pub const NO_BACKGROUND: usize = 4;
+pub use background::Background;
+use memory::Registers;
+use regs::iodev::{read_bgcnt, read_dispcnt};
 
 // The keys of backgrounds that are on are below this, those of the others from it on.
-const OFF_KEYS: usize = 4 * NO_BACKGROUND;
+const OFF_KEYS: usize = 0x10;
 
 // What a background is sorted by.
-fn sort_key(registers: &[u8], on: bool, bg: usize) -> usize
-    requires { (length registers.now ≡ registers_size) × (bg < 4) }
+fn sort_key(registers: &Registers, on: bool, bg: usize) -> usize
+    requires { bg < 4 }
     ensures { result ≡ sort_key on (priority (bgcnt registers.now bg)) bg }
 {
-    let priority = read_bgcnt(registers, bg).priority as usize;
+    let priority = usize::from(read_bgcnt(registers, bg).priority);
     if on { 4 * priority + bg } else { OFF_KEYS + bg }
-}
-
-fn lower(a: usize, b: usize) -> usize
-    ensures { result ≡ min a b }
-{
-    if a < b { a } else { b }
-}
-
-fn higher(a: usize, b: usize) -> usize
-    ensures { result ≡ max a b }
-{
-    if a < b { b } else { a }
 }
 
 // Four keys in order.
 fn sort_keys(a: usize, b: usize, c: usize, d: usize) -> [usize; 4]
     ensures { result ≡ sorted_keys a b c d }
 {
-    let low_first = lower(a, b);
-    let high_first = higher(a, b);
-    let low_second = lower(c, d);
-    let high_second = higher(c, d);
-    let low_middle = higher(low_first, low_second);
-    let high_middle = lower(high_first, high_second);
+    let low_first = a.min(b);
+    let high_first = a.max(b);
+    let low_second = c.min(d);
+    let high_second = c.max(d);
+    let low_middle = low_first.max(low_second);
+    let high_middle = high_first.min(high_second);
     [
-        lower(low_first, low_second),
-        lower(low_middle, high_middle),
-        higher(low_middle, high_middle),
-        higher(high_first, high_second),
+        low_first.min(low_second),
+        low_middle.min(high_middle),
+        low_middle.max(high_middle),
+        high_first.max(high_second),
     ]
 }
 
-// The background of a key.
-fn key_place(key: usize) -> usize
-    ensures { result ≡ key_place key }
+// The background of a key, if it is on.
+fn key_place(key: usize) -> Option<Background>
+    ensures { number_in result ≡ key_place key }
 {
     if key < OFF_KEYS {
-        key % 4
-    } else {
-        NO_BACKGROUND
+        return Some(Background { number: key % 4 });
     }
+    None
 }
 
 // The backgrounds that are on, ordered by priority and number, in four places.
-pub fn sort_backgrounds(display: DisplayControl, registers: &[u8]) -> [usize; 4]
-    requires { (length registers.now ≡ registers_size) × DisplayControlOf (dispcnt registers.now) display }
-    ensures { result ≡ places (ordered registers.now) }
+pub fn sort_backgrounds(registers: &Registers) -> [Option<Background>; 4]
+    ensures { map number_in result ≡ places (ordered registers.now) }
 {
-    let on = display.enable_bg;
+    let on = read_dispcnt(registers).enable_bg;
     let keys = sort_keys(
         sort_key(registers, on[0], 0),
         sort_key(registers, on[1], 1),

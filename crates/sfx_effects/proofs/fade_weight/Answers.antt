@@ -9,5 +9,5 @@ pub returns : goal.returns
 unfolding fade_weight
 returns c = (
   rw (c.choose.ensures, c.is_faded.ensures),
-  rw c.choose.ensures (cond_bound c.is_faded.result _ 0 c.requires.evy_bound (omega arith)),
+  rw c.choose.ensures (cond_bound c.is_faded.result _ 0 c.args.weights.evy_bound (omega arith)),
 )

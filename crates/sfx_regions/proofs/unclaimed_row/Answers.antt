@@ -1,16 +1,13 @@
--- sfx_regions::unclaimed_row meets its contract: with the object window off every column is outside, else a turn sets one column.
+-- sfx_regions::unclaimed_row meets its contract: with the object window off every column is outside.
 -- Assumes nothing.
-use Prim.Native.Nat.{◌-◌}
 use borrow.Author.Rules.{rules}
-use Rattle.rows.proofs.Tabbed.{tabbed_none, tabbed_more}
+use Rattle.rows.proofs.Made.{made_tab}
 use Rattle.rows.proofs.Tab.{tab_replicate}
 use Rattle.sfx_regions.proofs.unclaimed_row.Goals as goal
 
-pub returns-then-not-obj_window : goal.returns-then-not-obj_window
-returns-then-not-obj_window c = rw c.if-not-obj_window.true (tab_replicate _ 240)
+pub returns-then-obj_window : goal.returns-then-obj_window
+returns-then-obj_window c =
+    rw c.if-obj_window.true (made_tab _ _ _ _ _ 0 (λ i y q i< k. search rules) c.from_fn.ensures.items)
 
-pub loop-x-init : goal.loop-x-init
-loop-x-init c = search (rules, tabbed_none)
-
-pub loop-x-preserved : goal.loop-x-preserved
-loop-x-preserved c = search (rules, tabbed_more)
+pub returns-else-obj_window : goal.returns-else-obj_window
+returns-else-obj_window c = rw c.if-obj_window.false (tab_replicate _ 240)

@@ -6,7 +6,7 @@ use Rattle.sfx_sorting.proofs.sort_backgrounds.Goals as goal
 pub returns : goal.returns
 returns c =
     places_sorted _
-    c.requires.1.bg_is
+    c.read_dispcnt.ensures.bg_is
     c.sort_key.ensures
     c.sort_key-2.ensures
     c.sort_key-3.ensures

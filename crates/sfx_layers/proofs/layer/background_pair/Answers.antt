@@ -11,4 +11,8 @@ returns c =
       c.put_background-second.ensures,
       c.put_background-third.ensures,
       c.put_background-fourth.ensures,
+      c.is_permitted.ensures,
+      c.is_permitted-2.ensures,
+      c.is_permitted-3.ensures,
+      c.is_permitted-4.ensures,
     )

@@ -7,9 +7,9 @@ pub returns : goal.returns
 returns c =
     regions_are _ _ _ _ _
     c.read_dispcnt-objects.ensures.obj_is
-    c.region_of.ensures
-    c.region_of-2.ensures
-    c.region_of-3.ensures
-    c.region_of-4.ensures
-    c.region_of-5.ensures
+    c.word.ensures
+    c.word-2.ensures
+    c.word-3.ensures
+    c.word-4.ensures
+    c.word-5.ensures
     c.region_row.ensures
