@@ -1,5 +1,6 @@
 -- Lines of backgrounds and entries, by what tests find. No contract cites this file. Assumes nothing.
-use Prim.Native.Nat.{ℕ, zero, suc, ◌≤◌, ◌<◌}
+use Prim.Native.Nat.{ℕ, zero, suc, ◌<◌}
+use native.Mathlib.Omega.{arith}
 use mathlib.Core.Path.{◌≡◌, refl, sym, ap, ap₂, ◌∙◌}
 use mathlib.Core.Bool.{Bool, true, false, cond, false≢true, and-eq-true_iff}
 use mathlib.Core.List.{List, [], ◌∷◌, ◌++◌, map, map-append, replicate}
@@ -11,62 +12,63 @@ use Rattle.rows.specs.Cells.{cell_at, row_of}
 use Rattle.rows.specs.Words.{word_cells}
 use Rattle.rows.proofs.Cells.{row_of_cong}
 use Rattle.rows.proofs.Tab.{get_or-of-tab, tab_replicate}
+use Rattle.memory.specs.Memory.{Memory}
+use Rattle.memory.specs.Palette.{backdrop}
 use Rattle.regs.specs.Registers.{dispcnt}
 use Rattle.regs.specs.Display.{enable_bg, DisplayControlOf}
 use Rattle.regs.specs.declared.DisplayControl.{DisplayControl}
-use Rattle.regs.specs.Reading.{reading_of, counted}
-use Rattle.regs.specs.declared.reading.Reading.{Reading}
 use Rattle.bg_points.specs.declared.references.References.{References}
 use Rattle.bg.specs.Background.{background_color}
-use Rattle.memory.specs.Palette.{backdrop}
 use Rattle.obj_entries.specs.Entry.{entry_cells}
 use Rattle.obj_sprites.specs.Sprite.{source}
 use Rattle.obj.specs.Put.{put_sprites}
 use Rattle.sfx_sorting.specs.Ordered.{keep, stands, standing, ordered}
 use Rattle.sfx_layers.specs.Layers.{Layer, background, backgrounds}
 use Rattle.sfx_layers.specs.Code.{line_color}
-use Rattle.sfx.specs.Code.{bg_line}
 use Rattle.sfx.specs.Pixel.{pixel}
-use Rattle.gpu_judge.specs.Judge.{Call}
+use Rattle.gpu_judge.specs.Code.{call_in}
+use Rattle.gpu_judge.specs.declared.Request.{Request}
+use Rattle.gpu_judge.proofs.Verdicts.{reading_read}
 use Rattle.gpu.specs.Line.{entries_after, color_of, pixel_at, line_after}
 use Rattle.gpu.specs.Code.{color_if_on}
 
 -- ---- the line of a background
 
-module _ (vram palette registers : List ℕ) (references : References) (bg line : ℕ) {on : Bool} where
+module _ (m : Memory) (references : References) (bg line : ℕ) {on : Bool} where
   pub line_on : {r : List Rgb15} → on ≡ true
-      → r ≡ tab (λ column. rgb (background_color vram palette registers references bg column line)) 240
-      → r ≡ tab (λ column. rgb (color_if_on on vram palette registers references bg column line)) 240
+      → r ≡ tab (λ column. rgb (background_color m references bg column line)) 240
+      → r ≡ tab (λ column. rgb (color_if_on on m references bg column line)) 240
   unfolding color_if_on
   line_on is r-is = rw is r-is
 
   pub line_off : on ≡ false
-      → replicate 240 (rgb transparent) ≡ tab (λ column. rgb (color_if_on on vram palette registers references bg column line)) 240
+      → replicate 240 (rgb transparent) ≡ tab (λ column. rgb (color_if_on on m references bg column line)) 240
   unfolding color_if_on
   line_off is = rw is (tab_replicate (rgb transparent) 240)
 
+-- ---- the display control
+
+-- The display control read of memory is that of memory that is the same.
+pub read_of : {m n : Memory} → m ≡ n → {d : DisplayControl} → DisplayControlOf (dispcnt m.registers) d
+    → DisplayControlOf (dispcnt n.registers) d
+read_of same read = rw (sym same) read
+
 -- ---- the entries
 
-module _ (c : Call) (entries : List ℕ) {d : DisplayControl} (d-is : DisplayControlOf (dispcnt c.memory.registers) d) where
-  pub entries_on : {left : List ℕ} {reading : Reading} → d.enable_obj ≡ true → reading ≡ reading_of c.reading
-      → left ≡ put_sprites reading (source c.memory) c.line entries → left ≡ entries_after c entries
+module _ (r : Request) (entries : List ℕ) {d : DisplayControl} (d-is : DisplayControlOf (dispcnt r.memory.registers) d) where
+  pub entries_on : {left : List ℕ} → d.enable_obj ≡ true
+      → left ≡ put_sprites r.reading (source r.memory) r.line entries → left ≡ entries_after (call_in r) entries
   unfolding entries_after
-  entries_on on reading-is left_is = rw (sym d-is.obj_is, on, sym reading-is) left_is
+  entries_on on left_is = rw (sym d-is.obj_is, on, reading_read r.reading) left_is
 
-  pub entries_off : d.enable_obj ≡ false → entries ≡ entries_after c entries
+  pub entries_off : d.enable_obj ≡ false → entries ≡ entries_after (call_in r) entries
   unfolding entries_after
   entries_off off = rw (sym d-is.obj_is, off)
-
--- ---- the weights
-
--- What a reading makes of EVY, the reading as it was read.
-pub evy-read : (r : Reading) (reading y : ℕ) → r ≡ reading_of reading → counted (reading_of reading) y ≤ 16 → counted r y ≤ 16
-evy-read r reading y r-is evy≤ = rw r-is evy≤
 
 -- ---- the backgrounds that are on
 
 -- Whether a background is on.
-abbrev is_on : List ℕ → ℕ → Bool
+abbrev pub is_on : List ℕ → ℕ → Bool
 is_on registers bg = get_or (enable_bg (dispcnt registers)) bg false
 
 -- Two functions that agree on those that the test picks make the same of them.
@@ -109,56 +111,45 @@ module _ (registers : List ℕ) (f g : ℕ → ℕ) (same : (bg : ℕ) → is_on
       let at = standing registers in
       map_more (at 0 ++ at 1 ++ at 2) 3 (map_more (at 0 ++ at 1) 2 (map_more (at 0) 1 (map-standing 0)))
 
+-- Only backgrounds 0 to 3 are on.
+pub on_below : (registers : List ℕ) (bg : ℕ) → is_on registers bg ≡ true → bg < 4
+on_below registers zero on = omega arith
+on_below registers (suc zero) on = omega arith
+on_below registers (suc (suc zero)) on = omega arith
+on_below registers (suc (suc (suc zero))) on = omega arith
+on_below registers (suc (suc (suc (suc bg)))) on = absurd (false≢true on)
+
 -- ---- the line
 
-module _ (c : Call) {on : List Bool} (on-is : on ≡ enable_bg (dispcnt c.memory.registers)) where
-  -- The line of a background, as code draws it by the switches that it read.
-  abbrev Drawn : ℕ → List Rgb15 → Type 0
-  Drawn bg line =
-      line
-      ≡ tab
-      (λ column.
-      rgb
-      (color_if_on (get_or on bg false) c.memory.vram c.memory.palette c.memory.registers c.references
-      bg column c.line))
-      240
-
-  drawn_on : (bg : ℕ) {line : List Rgb15} → Drawn bg line → is_on c.memory.registers bg ≡ true
-      → (column : ℕ) → column < 240 → line_color line column ≡ color_of c bg column
+module _ (r : Request) {on : List Bool} (on-is : on ≡ enable_bg (dispcnt r.memory.registers)) {lines : List (List Rgb15)}
+    (lines-are : lines
+    ≡ tab (λ bg. tab (λ column. rgb (color_if_on (get_or on bg false) r.memory r.references bg column r.line)) 240) 4) where
+  -- The line of a background that is on, as code draws it by the switches that it read.
+  bg_line_on : (column : ℕ) → column < 240 → (bg : ℕ) → is_on r.memory.registers bg ≡ true
+      → line_color (get_or lines bg []) column ≡ color_of (call_in r) bg column
   unfolding color_if_on
-  drawn_on bg line-is is column column< =
-      ap (λ (a : Rgb15). a.0) (get_or-of-tab _ 240 column (rgb 0) line-is column<)
+  bg_line_on column column< bg is =
+      ap (λ line. line_color line column) (get_or-of-tab _ 4 bg [] lines-are (on_below r.memory.registers bg is))
+      ∙ ap (λ (a : Rgb15). a.0) (get_or-of-tab _ 240 column (rgb 0) refl column<)
       ∙ rw (on-is, is)
 
-  module _ {line0 line1 line2 line3 : List Rgb15} (line0-is : Drawn 0 line0) (line1-is : Drawn 1 line1)
-      (line2-is : Drawn 2 line2) (line3-is : Drawn 3 line3) where
-    bg_line_on : (column : ℕ) → column < 240 → (bg : ℕ) → is_on c.memory.registers bg ≡ true
-        → line_color (bg_line line0 line1 line2 line3 bg) column ≡ color_of c bg column
-    unfolding bg_line
-    bg_line_on column column< zero on = drawn_on 0 line0-is on column column<
-    bg_line_on column column< (suc zero) on = drawn_on 1 line1-is on column column<
-    bg_line_on column column< (suc (suc zero)) on = drawn_on 2 line2-is on column column<
-    bg_line_on column column< (suc (suc (suc zero))) on = drawn_on 3 line3-is on column column<
-    bg_line_on column column< (suc (suc (suc (suc bg)))) on = absurd (false≢true on)
-
-    -- The lines, composed, are the line.
-    pub line_composed : {left : List ℕ} {reading : Reading} (entries : List ℕ)
-        → reading ≡ reading_of c.reading
-        → left
-        ≡ row_of word_cells
-        (λ column.
-        pixel reading c.memory.registers (backdrop c.memory.palette)
-        (backgrounds c.memory.registers (λ bg. line_color (bg_line line0 line1 line2 line3 bg) column))
-        (cell_at entry_cells entries column) column c.line)
-        240
-        → left ≡ line_after c entries
-    unfolding line_after pixel_at
-    line_composed {left} {reading} entries reading-is left_is =
-        left_is
-        ∙ row_of_cong word_cells _ _ 240
-        (λ column column<.
-        ap
-        (λ bgs.
-        pixel reading c.memory.registers (backdrop c.memory.palette) bgs (cell_at entry_cells entries column) column c.line)
-        (backgrounds_on c.memory.registers _ _ (bg_line_on column column<)))
-        ∙ rw reading-is
+  -- The lines, composed, are the line.
+  pub line_composed : {left : List ℕ} (entries : List ℕ)
+      → left
+      ≡ row_of word_cells
+      (λ column.
+      pixel r.reading r.memory.registers (backdrop r.memory.palette)
+      (backgrounds r.memory.registers (λ bg. line_color (get_or lines bg []) column))
+      (cell_at entry_cells entries column) column r.line)
+      240
+      → left ≡ line_after (call_in r) entries
+  unfolding line_after pixel_at
+  line_composed entries left_is =
+      left_is
+      ∙ row_of_cong word_cells _ _ 240
+      (λ column column<.
+      ap
+      (λ bgs.
+      pixel r.reading r.memory.registers (backdrop r.memory.palette) bgs (cell_at entry_cells entries column) column r.line)
+      (backgrounds_on r.memory.registers _ _ (bg_line_on column column<)))
+      ∙ rw (reading_read r.reading) refl

@@ -1,20 +1,14 @@
 -- What a draw gives, for every input of any lengths (01, "What one draw takes and gives", "Numbers a draw may return").
 -- Assumes nothing.
 use Rattle.std.specs.Prelude.{ℕ, ◌≡◌, List}
-use Rattle.gpu_judge.specs.Judge.{Call, verdict, number_of}
+use Rattle.std.specs.declared.result.Result.{Result}
+use Rattle.std.specs.declared.result.Result.TheVariants.{Ok, Err}
+use Rattle.refusals.specs.Refusal.{refusal_number}
+use Rattle.refusals.specs.declared.Refusal.{Refusal}
+use Rattle.gpu_judge.specs.Judge.{Call, verdict}
+use Rattle.gpu_judge.specs.declared.Picture.{Picture}
+use Rattle.gpu_judge.specs.declared.Picture.TheVariants.{Blank, Drawn}
 use Rattle.gpu.specs.Line.{entries_after, line_after, blank_line}
-use Rattle.gpu_judge.specs.declared.Verdict.{Verdict}
-use Rattle.gpu_judge.specs.declared.Verdict.TheVariants.{
-  BadReading,
-  BadLength,
-  BadLine,
-  BadMode,
-  BadBldy,
-  BadReference,
-  BadEntry,
-  Blank,
-  Accepted,
-}
 
 -- What a draw gives: its number, and the entries and the output afterwards.
 pub record Drawing : Type 0 where
@@ -27,18 +21,12 @@ abbrev pub refused : ℕ → List ℕ → List ℕ → Drawing
 refused number entries output = record { number = number; entries = entries; output = output }
 
 -- What each verdict gives: forced blank leaves the entries.
-unfoldable pub given : Verdict → Call → List ℕ → List ℕ → Drawing
-given BadReading c entries output = refused (number_of BadReading) entries output
-given BadLength c entries output = refused (number_of BadLength) entries output
-given BadLine c entries output = refused (number_of BadLine) entries output
-given BadMode c entries output = refused (number_of BadMode) entries output
-given BadBldy c entries output = refused (number_of BadBldy) entries output
-given BadReference c entries output = refused (number_of BadReference) entries output
-given BadEntry c entries output = refused (number_of BadEntry) entries output
-given Blank c entries output = record { number = number_of Blank; entries = entries; output = blank_line }
-given Accepted c entries output =
+unfoldable pub given : Result Picture Refusal → Call → List ℕ → List ℕ → Drawing
+given (Err refusal) c entries output = refused (refusal_number refusal) entries output
+given (Ok Blank) c entries output = record { number = 0; entries = entries; output = blank_line }
+given (Ok Drawn) c entries output =
     let after = entries_after c entries in
-    record { number = number_of Accepted; entries = after; output = line_after c after }
+    record { number = 0; entries = after; output = line_after c after }
 
 -- What a draw gives.
 unfoldable pub draw : Call → List ℕ → List ℕ → Drawing

@@ -15,49 +15,51 @@ use Rattle.regs.specs.Registers.{dispcnt}
 use Rattle.regs.specs.Display.{mode, DisplayControlOf}
 use Rattle.regs.specs.declared.DisplayControl.{DisplayControl}
 use Rattle.obj_sprites.specs.Tiles.{tiles_start}
-use Rattle.gpu_bus.specs.declared.Byte.{Byte}
 use Rattle.gpu_pages.specs.declared.Page.{Page}
 use Rattle.gpu_pages.specs.declared.Page.TheVariants.{Palram, Vram, Oam, Other}
 use Rattle.gpu_pages.specs.Places.{page_of, is_other, small_offset, video_offset, offset_in, even, byte_of}
 use Rattle.gpu_bus.specs.Memories.{Memories, memories_of, bus_lengths, memory_of, with_memory, put_at_place}
-use Rattle.gpu_bus.specs.Read.{refused_byte, byte_in, read8, Reads}
+use Rattle.gpu_bus.specs.Read.{read_byte, read8, Reads}
+use Rattle.refusals.specs.Refusal.{refusal_number}
+use Rattle.refusals.specs.declared.Refusal.TheVariants.{BadLength, BadPage}
+use Rattle.std.specs.declared.result.Result.TheVariants.{Ok, Err}
 use Rattle.gpu_bus.specs.Store.{Store, Store8, Store16, address_of, two_bytes, stored, takes_byte, is_taken}
 use Rattle.gpu_bus.specs.Store.{store_lengths, is_video, is_odd_halfword, store_number, store, Stores}
 use Rattle.gpu_pages.proofs.Offsets.{video_offset_parity}
 
 -- ---- reads
 
-pub byte_in_is : (bytes : List ℕ) (at : ℕ) {v : ℕ} → v ≡ byte bytes at → record { number = 0; value = v } ≡ byte_in bytes at
-byte_in_is bytes at v-is = rw v-is
-
-module _ (address : ℕ) (m : Memories) {t : Bool} (t-is : t ≡ bus_lengths m) {b : Byte} where
-  pub reads-length : not t ≡ true → b ≡ refused_byte 2 → Reads address m b
-  unfolding read8
-  reads-length u b-is = b-is ∙ rw (sym t-is, u)
+module _ (address : ℕ) (m : Memories) {t : Bool} (t-is : t ≡ bus_lengths m) where
+  pub reads-length : not t ≡ true → Reads address m (read_byte (Err BadLength))
+  unfolding read8 read_byte refusal_number
+  reads-length u = rw (sym t-is, u) refl
 
   module _ (u : not t ≡ false) {p : Page} (p-is : p ≡ page_of address) where
-    pub reads_other : p ≡ Other → b ≡ refused_byte 9 → Reads address m b
-    unfolding read8 byte_of
-    reads_other found b-is = b-is ∙ rw (sym t-is, u, sym p-is, found)
+    pub reads_other : p ≡ Other → Reads address m (read_byte (Err BadPage))
+    unfolding read8 byte_of read_byte refusal_number
+    reads_other found = rw (sym t-is, u, sym p-is, found) refl
 
-    module _ {at : ℕ} where
+    module _ {at v : ℕ} where
       -- From whichever memory.
       reads_page : (page : Page) → is_other page ≡ false → p ≡ page → at ≡ offset_in page address
-          → b ≡ byte_in (memory_of page m) at → Reads address m b
-      unfolding read8 byte_of
-      reads_page page some found at-is b-is = b-is ∙ rw (sym t-is, u, sym p-is, found, some, at-is)
+          → v ≡ byte (memory_of page m) at → Reads address m (read_byte (Ok v))
+      unfolding read8 byte_of read_byte
+      reads_page page some found at-is v-is = rw (sym t-is, u, sym p-is, found, some, sym at-is, v-is) refl
 
-      pub reads_palette : p ≡ Palram → at ≡ small_offset address → b ≡ byte_in m.palette at → Reads address m b
+      pub reads_palette : p ≡ Palram → at ≡ small_offset address → v ≡ byte m.palette at → Reads address m (read_byte (Ok v))
       unfolding offset_in memory_of
       reads_palette = reads_page Palram refl
 
-      pub reads_video : p ≡ Vram → at ≡ video_offset address → b ≡ byte_in m.vram at → Reads address m b
+      pub reads_video : p ≡ Vram → at ≡ video_offset address → v ≡ byte m.vram at → Reads address m (read_byte (Ok v))
       unfolding offset_in memory_of
       reads_video = reads_page Vram refl
 
-      pub reads_oam : p ≡ Oam → at ≡ small_offset address → b ≡ byte_in m.oam at → Reads address m b
+      pub reads_oam : p ≡ Oam → at ≡ small_offset address → v ≡ byte m.oam at → Reads address m (read_byte (Ok v))
       unfolding offset_in memory_of
       reads_oam = reads_page Oam refl
+
+-- What a read gives, in each case.
+pub ruleset reads = (reads-length, reads_other, reads_palette, reads_video, reads_oam)
 
 -- ---- stores of either width
 
@@ -142,6 +144,9 @@ module _ (address value : ℕ) (vram palette oam : List ℕ) {t : Bool} (t-is : 
             stores_put half before half_sized Oam refl (sym p-is ∙ found) (odd_is Oam found) refl
             (i-is ∙ ap even at-is) left_is
 
+-- What a store of a halfword gives, in each case.
+pub ruleset halves = (half_length, half_odd, half_palette, half_video, half_oam, half-other)
+
 -- ---- byte stores, as code comes to them
 
 -- Where sprite tiles start, by the mode that is read.
@@ -220,3 +225,6 @@ module _ (registers : List ℕ) (address value : ℕ) (vram palette oam : List �
       byte_video yes-is x x_is i-is left_is =
           stores_put single lent byte_sized Vram refl (sym p-is ∙ found) never_odd (taken_video ∙ yes-is)
           (i-is ∙ ap even at-is) (left_is ∙ ap (put_from vram _) x_is)
+
+-- What a store of a byte gives, in each case.
+pub ruleset singles = (byte_registers, byte-length, byte_palette, byte_video, byte_tiles, byte_oam, byte-other)

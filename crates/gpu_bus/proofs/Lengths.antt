@@ -1,20 +1,16 @@
 -- Laws of lengths, and of a byte that is stored. No contract cites this file. Assumes nothing.
-use Prim.Native.Nat.{ℕ, ◌+◌, ◌*◌, ◌/◌, ◌%◌, ◌<◌}
+use Prim.Native.Nat.{ℕ, ◌+◌, ◌<◌}
 use native.Mathlib.Omega.{arith}
-use mathlib.Core.Path.{◌≡◌, sym, ap, ◌∙◌}
+use mathlib.Core.Path.{◌≡◌, sym, ◌∙◌}
 use mathlib.Core.Bool.{Bool, true, false, not, ◌&&◌}
-use mathlib.Core.List.{List, [], ◌∷◌}
+use mathlib.Core.List.{List}
 use lib.Dec.{eqb}
 use lib.ListN.{length}
-use mir.Syntax.{w8}
-use mir.Val.{Fits}
 use borrow.Author.Tests.{eqb-true, not-false}
 use Rattle.bits.proofs.Booleans.{and_both}
-use Rattle.rows.proofs.Words.{high-join}
 use Rattle.memory.specs.Sizes.{video_ram_size, palette_ram_size, oam_size}
 use Rattle.gpu_pages.specs.Places.{even}
 use Rattle.gpu_bus.specs.Memories.{Memories, memories_of, bus_lengths}
-use Rattle.gpu_bus.specs.Store.{two_bytes}
 
 -- ---- lengths
 
@@ -59,12 +55,5 @@ module _ (vram palette oam : List ℕ) {t : Bool} (t-is : t ≡ bus_lengths (mem
       pub video-half : at < 0x18000 → i + 1 < length vram
       video-half h = omega (arith, sized_found.vram_is)
 
--- ---- bytes
-
--- A byte taken 257 times has the byte in both halves.
-pub two_bytes_expand : (value : ℕ) → Fits w8 value → two_bytes (value * 0x101) ≡ value ∷ value ∷ []
-two_bytes_expand value fits =
-    let low : value * 0x101 % 256 ≡ value = omega arith in
-    let h : value * 0x101 ≡ value + 256 * value = omega arith in
-    let high : value * 0x101 / 256 % 256 ≡ value = rw h (ap (λ (n : ℕ). n % 256) (high-join value value fits) ∙ omega arith) in
-    rw (low, high)
+-- What lies in its memory.
+pub ruleset inside = (palette-inside, oam-inside, video-inside, video_next, palette-half, oam-half, video-half)

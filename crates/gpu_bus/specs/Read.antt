@@ -1,5 +1,9 @@
 -- What a byte read gives (02, W-205). Assumes nothing.
 use Rattle.std.specs.Prelude.{ℕ, ◌≡◌, cond, not, List}
+use Rattle.std.specs.declared.result.Result.{Result}
+use Rattle.std.specs.declared.result.Result.TheVariants.{Ok, Err}
+use Rattle.refusals.specs.Refusal.{refusal_number}
+use Rattle.refusals.specs.declared.Refusal.{Refusal}
 use Rattle.memory.specs.Memory.{byte}
 use Rattle.gpu_bus.specs.declared.Byte.{Byte}
 use Rattle.gpu_pages.specs.Places.{is_other, byte_of}
@@ -8,6 +12,11 @@ use Rattle.gpu_bus.specs.Memories.{Memories, bus_lengths, memory_of}
 -- A refused read has value 0.
 abbrev pub refused_byte : ℕ → Byte
 refused_byte number = record { number = number; value = 0 }
+
+-- A byte that is read, or why it is refused, as it is handed out.
+unfoldable pub read_byte : Result ℕ Refusal → Byte
+read_byte (Ok value) = record { number = 0; value = value }
+read_byte (Err refusal) = refused_byte (refusal_number refusal)
 
 -- The byte at an offset, read.
 abbrev pub byte_in : List ℕ → ℕ → Byte

@@ -2,115 +2,136 @@
 use Prim.Native.Nat.{ℕ}
 use native.Mathlib.Omega.{arith}
 use mathlib.Core.Path.{◌≡◌, refl, sym, ap, ◌∙◌}
-use mathlib.Core.Bool.{Bool, true, false, cond, and-false}
+use mathlib.Core.Bool.{true, false, cond}
 use mathlib.Core.List.{List}
-use lib.Dec.{eqb, ltb}
+use lib.Dec.{eqb}
 use lib.ListN.{length}
-use borrow.Author.Tests.{eqb-true, ne_eqb}
-use Rattle.memory.specs.Sizes.{registers_size}
-use Rattle.gpu_judge.specs.Judge.{Call, have_lengths, verdict, number_of}
-use Rattle.gpu.specs.Draw.{refused, given, draw, Draws}
-use Rattle.gpu_judge.specs.declared.Verdict.TheVariants.{BadReading, BadLength}
-use Rattle.gpu_judge.proofs.Verdicts.{verdict_cases}
+use Rattle.std.specs.declared.result.Result.{Result}
+use Rattle.std.specs.declared.result.Result.TheVariants.{Ok, Err}
+use Rattle.memory.specs.Sizes.{output_size}
+use Rattle.refusals.specs.Refusal.{refusal_number, outcome_number}
+use Rattle.refusals.specs.declared.Refusal.{Refusal}
+use Rattle.refusals.specs.declared.Refusal.TheVariants.{
+  BadReading,
+  BadLength,
+  BadLine,
+  BadMode,
+  BadBldy,
+  BadReference,
+  BadEntry,
+  BadColumn,
+  BadPage,
+  OddAddress,
+}
+use Rattle.regs.specs.Registers.{dispcnt}
+use Rattle.regs.specs.Display.{force_blank}
+use Rattle.gpu_judge.specs.Judge.{Call}
+use Rattle.gpu_judge.specs.Code.{request, judged, call_in}
+use Rattle.gpu_judge.specs.declared.Picture.{Picture}
+use Rattle.gpu_judge.specs.declared.Picture.TheVariants.{Blank, Drawn}
+use Rattle.gpu_judge.specs.declared.Request.{Request}
+use Rattle.gpu_judge.proofs.Verdicts.{call_asked, judged_tells}
+use Rattle.gpu.specs.Draw.{Drawing, given, Draws}
+use Rattle.gpu.proofs.Given.{draws_unasked, draws_short, draws_cut, draws_judged}
 use Rattle.gpu_records.specs.Entries.{row_bytes, records_in}
 use Rattle.gpu_records.specs.declared.entry.ObjBufferEntry.{ObjBufferEntry}
 use Rattle.gpu_records.proofs.Rows.{length-row_bytes}
-use Rattle.gpu_draw_records.specs.Draw.{RecordDrawing, writes, draw_records, DrawsRecords}
-use Rattle.gpu_draw_records.specs.Code.{row_refusal, drawn_row}
-use Rattle.gpu_draw_records.specs.declared.Drawn.{Drawn}
+use Rattle.gpu_draw_records.specs.Draw.{writes, draw_records, DrawsRecords}
 
--- ---- the byte form
+-- ---- what a refusal does
 
-module _ (c : Call) (entries output : List ℕ) where
-  -- A draw that gives 0 has its registers.
-  pub registers_sized : {number : ℕ} {entriesLeft outputLeft : List ℕ}
-      → Draws c entries output number entriesLeft outputLeft → number ≡ 0 → length c.memory.registers ≡ registers_size
-  unfolding draw given number_of
-  registers_sized drew zero_is =
-      verdict_cases c entries output
-      (λ v. (given v c entries output).number ≡ 0 → length c.memory.registers ≡ registers_size)
-      (λ n. absurd (omega arith)) (λ n. absurd (omega arith)) (λ n. absurd (omega arith))
-      (λ _ lengths _. lengths.registers_is)
-      (λ n. absurd (omega arith)) (λ n. absurd (omega arith)) (λ n. absurd (omega arith)) (λ _ n. absurd (omega arith))
-      (λ _ ready _. ready.lengths.registers_is)
-      (sym (ap (λ d. d.number) drew) ∙ zero_is)
-
-  -- A draw on a row of another length is refused, for its reading or for that.
-  pub draw-length : (length entries ≡ 960 → ⊥) → draw c entries output ≡ refused (cond (ltb 1 c.reading) 1 2) entries output
-  unfolding draw given verdict number_of have_lengths
-  draw-length other = rw unequal (go (ltb 1 c.reading))
-    where
-      unequal : have_lengths c.memory entries output ≡ false
-      unequal = simp (ne_eqb (length entries) 960 other, and-false)
-
-      go : (t : Bool) → given (cond t BadReading BadLength) c entries output ≡ refused (cond t 1 2) entries output
-      go true = refl
-      go false = refl
-
--- ---- the row
-
--- No refusal means 240 records.
-pub row_whole : (reading count : ℕ) → row_refusal reading count ≡ 0 → count ≡ 240
-unfolding row_refusal
-row_whole reading count n = go (eqb count 240) (ltb 1 reading) refl n
-  where
-    go : (t u : Bool) → eqb count 240 ≡ t → ◌≡◌ {A = ℕ} (cond t 0 (cond u 1 2)) 0 → count ≡ 240
-    go true u same n = eqb-true count 240 same
-    go false true same n = absurd (omega arith)
-    go false false same n = absurd (omega arith)
+-- A refusal's number isn't 0.
+refusal_some : (e : Refusal) → eqb (refusal_number e) 0 ≡ false
+unfolding refusal_number
+refusal_some BadReading = refl
+refusal_some BadLength = refl
+refusal_some BadLine = refl
+refusal_some BadMode = refl
+refusal_some BadBldy = refl
+refusal_some BadReference = refl
+refusal_some BadEntry = refl
+refusal_some BadColumn = refl
+refusal_some BadPage = refl
+refusal_some OddAddress = refl
 
 module _ (c : Call) (records : List ObjBufferEntry) (output : List ℕ) where
-  -- The refusal of a row of another length is the draw's, which leaves everything.
-  pub draws-refused : (row_refusal c.reading (length records) ≡ 0 → ⊥)
-      → DrawsRecords c records output (row_refusal c.reading (length records)) records output
-  unfolding row_refusal draw_records writes
-  draws-refused some =
-      rw (ne_eqb (length records) 240 other, draw-length c (row_bytes records) output unequal) (go (ltb 1 c.reading))
-    where
-      other : length records ≡ 240 → ⊥
-      other size = some (ap (λ n. cond (eqb n 240) 0 (cond (ltb 1 c.reading) 1 2)) size)
+  -- The draw over records is the byte form's.
+  by_bytes : {number : ℕ} {entriesLeft outputLeft : List ℕ} → Draws c (row_bytes records) output number entriesLeft outputLeft
+      → DrawsRecords c records output number
+      (cond (writes number c.memory.registers) (records_in entriesLeft) records) outputLeft
+  unfolding draw_records
+  by_bytes drew =
+      ap
+      (λ (d : Drawing).
+      record {
+        number = d.number;
+        records = cond (writes d.number c.memory.registers) (records_in d.entries) records;
+        output = d.output;
+      })
+      drew
 
-      unequal : length (row_bytes records) ≡ 960 → ⊥
-      unequal size = other (omega (arith, length-row_bytes records))
+  -- A refusal leaves the records.
+  refused_by : (e : Refusal) {entriesLeft outputLeft : List ℕ}
+      → Draws c (row_bytes records) output (refusal_number e) entriesLeft outputLeft
+      → DrawsRecords c records output (refusal_number e) records outputLeft
+  unfolding writes
+  refused_by e drew = rw (refusal_some e) at (by_bytes drew)
 
-      go : (t : Bool)
-          → ◌≡◌ {A = RecordDrawing}
-          (record { number = cond t 1 2; records = records; output = output })
-          (record {
-            number = cond t 1 2;
-            records = cond (writes (cond t 1 2) c.memory.registers) (records_in (row_bytes records)) records;
-            output = output;
-          })
-      go true = refl
-      go false = refl
+  pub records_unasked : {e : Refusal} → request c ≡ Err e → DrawsRecords c records output (refusal_number e) records output
+  records_unasked {e} refused = refused_by e (draws_unasked c (row_bytes records) output refused)
 
-  -- The draw on values is the byte form's.
-  pub drawn_is : {bytes : List ℕ} {number : ℕ} {writing : Bool} {row : List ObjBufferEntry} {entriesLeft outputLeft : List ℕ}
-      → bytes ≡ row_bytes records → Draws c bytes output number entriesLeft outputLeft
-      → writing ≡ writes number c.memory.registers → row ≡ records_in entriesLeft
-      → (◌≡◌ {A = Drawn} (record { number = number; writes = writing; row = row }) (drawn_row c records output))
-      × (outputLeft ≡ (draw c (row_bytes records) output).output)
-  unfolding drawn_row
-  drawn_is bytes_are drew writes-is row_is =
-      let gave = rw bytes_are at drew in (
-        rw (writes-is, row_is)
-            (ap
-            (λ d. record { number = d.number; writes = writes d.number c.memory.registers; row = records_in d.entries })
-            gave),
-        ap (λ d. d.output) gave,
-      )
+  module _ {r : Request} (asks : request c ≡ Ok r) where
+    pub records_short : (length records ≡ 240 → ⊥) → DrawsRecords c records output 2 records output
+    unfolding refusal_number
+    records_short n =
+        refused_by BadLength
+        (draws_short c (row_bytes records) output asks (λ size. n (omega (arith, length-row_bytes records, size))))
 
-  -- A row that isn't to be written stays, and one that is becomes what the draw made of it.
-  pub draws_kept : (drawn_row c records output).writes ≡ false
-      → DrawsRecords c records output (drawn_row c records output).number records (draw c (row_bytes records) output).output
-  unfolding drawn_row draw_records
-  draws_kept kept = rw kept
+    module _ (whole : length records ≡ 240) where
+      sized : length (row_bytes records) ≡ 960
+      sized = omega (arith, length-row_bytes records)
 
-  pub draws-written : (drawn_row c records output).writes ≡ true
-      → DrawsRecords c records output (drawn_row c records output).number (drawn_row c records output).row
-      (draw c (row_bytes records) output).output
-  unfolding drawn_row draw_records
-  draws-written written = rw written
+      pub records_cut : {row : List ObjBufferEntry} → row ≡ records → (length output ≡ output_size → ⊥)
+          → DrawsRecords c records output 2 row output
+      unfolding refusal_number
+      records_cut row_is n =
+          rw row_is (refused_by BadLength (draws_cut c (row_bytes records) output asks refl sized n))
+
+      -- What was drawn on the bytes.
+      module _ {row : List ObjBufferEntry} (row_is : row ≡ records) {o : List ℕ} (o-is : o ≡ output) (full : length o ≡ output_size)
+          {bytes : List ℕ} (bytes_are : bytes ≡ row_bytes row)
+          {v : Result Picture Refusal} (v-is : v ≡ judged r bytes) {entriesLeft outputLeft : List ℕ}
+          (gave : record { number = outcome_number v; entries = entriesLeft; output = outputLeft } ≡ given v (call_in r) bytes o)
+        where
+          drew : Draws c (row_bytes records) output (outcome_number v) entriesLeft outputLeft
+          drew =
+              let same : bytes ≡ row_bytes records = bytes_are ∙ ap row_bytes row_is in
+              draws_judged c (row_bytes records) output asks same o-is (ap length same ∙ sized) full v-is gave
+
+          pub records_refused : {e : Refusal} → v ≡ Err e → DrawsRecords c records output (refusal_number e) row outputLeft
+          unfolding outcome_number
+          records_refused {e} is = rw row_is (refused_by e (rw is at drew))
+
+          -- Whether forced blank is on, as the draw found.
+          lit_by : {p : Picture} → v ≡ Ok p → judged r bytes ≡ Ok p
+          lit_by is = sym v-is ∙ is
+
+          pub records_kept : v ≡ Ok Blank → DrawsRecords c records output 0 row outputLeft
+          unfolding outcome_number writes
+          records_kept is =
+              let on : force_blank (dispcnt c.memory.registers) ≡ true =
+              rw (sym (call_asked c asks)) (judged_tells r bytes (lit_by is))
+              in
+              rw row_is (rw on at (by_bytes (rw is at drew)))
+
+          pub records_written : v ≡ Ok Drawn → {zs : List ObjBufferEntry} → zs ≡ records_in entriesLeft
+              → DrawsRecords c records output 0 zs outputLeft
+          unfolding outcome_number writes
+          records_written is zs-are =
+              let off : force_blank (dispcnt c.memory.registers) ≡ false =
+              rw (sym (call_asked c asks)) (judged_tells r bytes (lit_by is)).lit
+              in
+              rw zs-are (rw off at (by_bytes (rw is at drew)))
 
   -- A number, a row and an output that satisfy the contract are the only ones.
   pub draws_once : {m n : ℕ} {r s : List ObjBufferEntry} {u v : List ℕ}

@@ -1,3 +1,2 @@
 -- What the draw over a lent row of records gives, for every input. Assumes nothing.
 pub mod Draw
-pub mod Code

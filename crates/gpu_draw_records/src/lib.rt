@@ -1,97 +1,43 @@
-// The draw on a row of records by value: the byte form draws on their bytes (gpu/mod.rs, `render_scanline`).
+// The draw on a row of records: the byte form draws on their bytes (gpu/mod.rs, `render_scanline`).
 
 #![tactic(auto)]
 
-ghost use Rattle.std.specs.Prelude.{◌≡◌, length};
-ghost use Rattle.memory.specs.Sizes.{registers_size};
+ghost use Rattle.refusals.specs.Refusal.{outcome_number};
 ghost use Rattle.gpu_judge.specs.Judge.{call_of};
-ghost use Rattle.gpu.specs.Draw.{draw};
-ghost use Rattle.gpu_records.specs.Entries.{row_bytes};
-ghost use Rattle.gpu_draw_records.specs.Draw.{writes};
-ghost use Rattle.gpu_draw_records.specs.Code.{row_refusal, drawn_row};
+ghost use Rattle.gpu_draw_records.specs.Draw.{DrawsRecords};
 
 use bg_points::References;
-use gpu_records::{ObjBufferEntry, decode_row, encode_row};
-use memory::DISPLAY_WIDTH;
-use regs::iodev::read_dispcnt;
+use gpu::draw_request;
+use gpu_judge::{Picture, Request};
+use gpu_records::{ObjBufferEntry, Records, decode_row, encode_row};
+use memory::Output;
+use refusals::Refusal;
 
-// What a draw makes of a row: its number, and the row to be written, if it is to be.
-#[derive(Clone, Copy)]
-pub struct Drawn {
-    pub number: u32,
-    pub writes: bool,
-    pub row: [ObjBufferEntry; DISPLAY_WIDTH],
-}
-
-// The refusal of a row of another length, in the draw's order, or 0.
-pub fn judge_row(reading: u32, count: usize) -> u32
-    ensures { result ≡ row_refusal reading count }
-{
-    if count == DISPLAY_WIDTH {
-        0
-    } else if reading > 1 {
-        1
-    } else {
-        2
-    }
-}
-
-// Whether a draw that gave the number writes its row.
-fn does_write(number: u32, registers: &[u8]) -> bool
-    requires { number ≡ 0 → length registers.now ≡ registers_size }
-    ensures { result ≡ writes number registers.now }
-{
-    if number == 0 {
-        let dispcnt = read_dispcnt(registers);
-        !dispcnt.force_blank
-    } else {
-        false
-    }
-}
-
-// The draw on a row of 240.
-pub fn draw_row(
-    records: [ObjBufferEntry; DISPLAY_WIDTH],
+// A line drawn over a row of 240 records; the row is written only where a picture is drawn, since a record whose priority a
+// byte doesn't hold would come back as another.
+pub fn draw_records(
     reading: u32,
     line: u32,
-    x2: i32,
-    y2: i32,
-    x3: i32,
-    y3: i32,
+    references: References,
     vram: &[u8],
     palette: &[u8],
     oam: &[u8],
     registers: &[u8],
+    entries: &mut [ObjBufferEntry],
     output: &mut [u8],
-) -> Drawn
-    ensures { (result
-        ≡ drawn_row
-        (call_of reading line (record { x2 = x2; y2 = y2; x3 = x3; y3 = y3 })
+) -> Result<(), Refusal>
+    ensures { DrawsRecords
+        (call_of reading line references
         vram.now palette.now oam.now registers.now)
-        records output.old)
-        × (output.new
-        ≡ (draw
-        (call_of reading line (record { x2 = x2; y2 = y2; x3 = x3; y3 = y3 })
-        vram.now palette.now oam.now registers.now)
-        (row_bytes records) output.old).output) }
+        entries.old output.old (outcome_number result) entries.new output.new }
 {
-    let mut bytes = encode_row(records);
-    let number = gpu::draw(
-        reading,
-        line,
-        References { x2, y2, x3, y3 },
-        vram,
-        palette,
-        oam,
-        registers,
-        &mut bytes,
-        output,
-    );
-    let writes = does_write(number, registers);
-    let row = decode_row(&bytes);
-    Drawn {
-        number,
-        writes,
-        row,
+    let request = Request::new(reading, line, references, vram, palette, oam, registers)?;
+    let row: &mut Records = entries.as_mut_array().ok_or(Refusal::BadLength)?;
+    let output: &mut Output = output.as_mut_array().ok_or(Refusal::BadLength)?;
+    let mut bytes = encode_row(row);
+    match draw_request(&request, &mut bytes, output)? {
+        Picture::Blank => {}
+        Picture::Drawn => *row = decode_row(&bytes),
     }
+    Ok(())
 }

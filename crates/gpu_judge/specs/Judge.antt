@@ -1,15 +1,12 @@
 -- Judging a draw's input (01, "What one draw takes and gives", "Numbers a draw may return"; GBATEK, "LCD I/O Display
 -- Control", which has forced blank and the modes). Assumes nothing.
 use Rattle.std.specs.Prelude.{ℕ, Bool, cond, not, ◌&&◌, List, eqb, leb, ltb, length}
-use Rattle.memory.specs.Memory.{Memory}
-use Rattle.memory.specs.Sizes.{video_ram_size, palette_ram_size, oam_size, registers_size, display_height, output_size}
-use Rattle.regs.specs.Registers.{dispcnt, bldy}
-use Rattle.regs.specs.Display.{mode, force_blank}
-use Rattle.bg_points.specs.References.{in_ranges}
-use Rattle.bg_points.specs.declared.references.References.{References}
-use Rattle.obj_entries.specs.Entry.{entries_size, shaped_row}
-use Rattle.gpu_judge.specs.declared.Verdict.{Verdict}
-use Rattle.gpu_judge.specs.declared.Verdict.TheVariants.{
+use Rattle.std.specs.declared.result.Result.{Result}
+use Rattle.std.specs.declared.result.Result.TheVariants.{Ok, Err}
+use Rattle.memory.specs.Memory.{Memory, memory_from, memory_lengths}
+use Rattle.memory.specs.Sizes.{display_height, output_size}
+use Rattle.refusals.specs.declared.Refusal.{Refusal}
+use Rattle.refusals.specs.declared.Refusal.TheVariants.{
   BadReading,
   BadLength,
   BadLine,
@@ -17,9 +14,14 @@ use Rattle.gpu_judge.specs.declared.Verdict.TheVariants.{
   BadBldy,
   BadReference,
   BadEntry,
-  Blank,
-  Accepted,
 }
+use Rattle.regs.specs.Registers.{dispcnt, bldy}
+use Rattle.regs.specs.Display.{mode, force_blank}
+use Rattle.bg_points.specs.References.{in_ranges}
+use Rattle.bg_points.specs.declared.references.References.{References}
+use Rattle.obj_entries.specs.Entry.{entries_size, shaped_row}
+use Rattle.gpu_judge.specs.declared.Picture.{Picture}
+use Rattle.gpu_judge.specs.declared.Picture.TheVariants.{Blank, Drawn}
 
 -- What a draw is asked for: the reading and the line as numbers, the reference numbers, and the memory it reads.
 pub record Call : Type 0 where
@@ -35,16 +37,8 @@ call_of reading line references vram palette oam registers =
       reading = reading;
       line = line;
       references = references;
-      memory = record { vram = vram; palette = palette; oam = oam; registers = registers };
+      memory = memory_from vram palette oam registers;
     }
-
--- Whether each buffer of the memory has its length.
-abbrev pub memory_lengths : Memory → Bool
-memory_lengths m =
-    eqb (length m.vram) video_ram_size
-    && eqb (length m.palette) palette_ram_size
-    && eqb (length m.oam) oam_size
-    && eqb (length m.registers) registers_size
 
 -- Whether each buffer has its length.
 unfoldable pub have_lengths : Memory → List ℕ → List ℕ → Bool
@@ -55,25 +49,13 @@ abbrev pub blank_off : Call → Bool
 blank_off c = not (force_blank (dispcnt c.memory.registers))
 
 -- What a draw is found to be: the first row of the table that applies, and drawn if none does.
-unfoldable pub verdict : Call → List ℕ → List ℕ → Verdict
+unfoldable pub verdict : Call → List ℕ → List ℕ → Result Picture Refusal
 verdict c entries output =
-    cond (ltb 1 c.reading) BadReading
-    (cond (not (have_lengths c.memory entries output)) BadLength
-    (cond (leb display_height c.line) BadLine
-    (cond (blank_off c && ltb 5 (mode (dispcnt c.memory.registers))) BadMode
-    (cond (blank_off c && eqb c.reading 0 && ltb 16 (bldy c.memory.registers)) BadBldy
-    (cond (blank_off c && not (in_ranges c.references)) BadReference
-    (cond (blank_off c && not (shaped_row entries)) BadEntry
-    (cond (blank_off c) Accepted Blank)))))))
-
--- The number of each.
-unfoldable pub number_of : Verdict → ℕ
-number_of BadReading = 1
-number_of BadLength = 2
-number_of BadLine = 3
-number_of BadMode = 4
-number_of BadBldy = 5
-number_of BadReference = 6
-number_of BadEntry = 7
-number_of Blank = 0
-number_of Accepted = 0
+    cond (ltb 1 c.reading) (Err BadReading)
+    (cond (not (have_lengths c.memory entries output)) (Err BadLength)
+    (cond (leb display_height c.line) (Err BadLine)
+    (cond (blank_off c && ltb 5 (mode (dispcnt c.memory.registers))) (Err BadMode)
+    (cond (blank_off c && eqb c.reading 0 && ltb 16 (bldy c.memory.registers)) (Err BadBldy)
+    (cond (blank_off c && not (in_ranges c.references)) (Err BadReference)
+    (cond (blank_off c && not (shaped_row entries)) (Err BadEntry)
+    (cond (blank_off c) (Ok Drawn) (Ok Blank))))))))

@@ -2,134 +2,105 @@
 
 #![tactic(auto)]
 
-ghost use Rattle.std.specs.Prelude.{◌≡◌, length};
-ghost use Rattle.memory.specs.Sizes.{registers_size};
-ghost use Rattle.obj_entries.specs.Entry.{entries_size};
-ghost use Rattle.gpu_judge.specs.Judge.{call_of, have_lengths, verdict, number_of};
-ghost use Rattle.gpu_judge.specs.Code.{line_verdict};
+ghost use Rattle.std.specs.Prelude.{◌≡◌};
+ghost use Rattle.memory.specs.Memory.{memory_from};
+ghost use Rattle.gpu_judge.specs.Judge.{call_of};
+ghost use Rattle.gpu_judge.specs.Code.{lent_memory, request, judged};
 
 use bg_points::References;
-use memory::{
-    DISPLAY_HEIGHT, OAM_SIZE, OUTPUT_SIZE, PALETTE_RAM_SIZE, REGISTERS_SIZE, VIDEO_RAM_SIZE,
-};
-use obj_entries::{ENTRIES_SIZE, shaped_row};
+use memory::{DISPLAY_HEIGHT, Memory};
+use obj_entries::{Entries, shaped_row};
+use refusals::Refusal;
+use regs::Reading;
 use regs::iodev::read_dispcnt;
 use regs_blend::read_bldy;
 
 // Lines of the screen, as a line is asked for.
 const LINES: u32 = DISPLAY_HEIGHT as u32;
 
-// What a draw's input is found to be.
-#[derive(Clone, Copy)]
-pub enum Verdict {
-    BadReading,
-    BadLength,
-    BadLine,
-    BadMode,
-    BadBldy,
-    BadReference,
-    BadEntry,
+// What an accepted draw shows: the line of forced blank, or one of backgrounds and sprites.
+#[derive(Clone, Copy, Debug, PartialEq, Eq)]
+pub enum Picture {
     Blank,
-    Accepted,
+    Drawn,
 }
 
-impl Verdict {
-    // The number that a draw returns.
-    pub fn number(self) -> u32
-        ensures { result ≡ number_of self }
+// The lent memory, if each buffer has its length.
+fn lent_memory<'a>(
+    vram: &'a [u8],
+    palette: &'a [u8],
+    oam: &'a [u8],
+    registers: &'a [u8],
+) -> Result<Memory<'a>, Refusal>
+    ensures { result ≡ lent_memory (memory_from vram.now palette.now oam.now registers.now) }
+{
+    let vram = vram.as_array().ok_or(Refusal::BadLength)?;
+    let palette = palette.as_array().ok_or(Refusal::BadLength)?;
+    let oam = oam.as_array().ok_or(Refusal::BadLength)?;
+    let registers = registers.as_array().ok_or(Refusal::BadLength)?;
+    Ok(Memory {
+        vram,
+        palette,
+        oam,
+        registers,
+    })
+}
+
+// What a draw is asked for, by a reading that there is and memory that has its lengths.
+#[derive(Drop)]
+pub struct Request<'a> {
+    pub reading: Reading,
+    pub line: u32,
+    pub references: References,
+    pub memory: Memory<'a>,
+}
+
+impl<'a> Request<'a> {
+    // The first tests of a draw: of the reading, and of the memory's lengths.
+    pub fn new(
+        reading: u32,
+        line: u32,
+        references: References,
+        vram: &'a [u8],
+        palette: &'a [u8],
+        oam: &'a [u8],
+        registers: &'a [u8],
+    ) -> Result<Request<'a>, Refusal>
+        ensures { result ≡ request (call_of reading line references vram.now palette.now oam.now registers.now) }
     {
-        match self {
-            Verdict::BadReading => 1,
-            Verdict::BadLength => 2,
-            Verdict::BadLine => 3,
-            Verdict::BadMode => 4,
-            Verdict::BadBldy => 5,
-            Verdict::BadReference => 6,
-            Verdict::BadEntry => 7,
-            Verdict::Blank => 0,
-            Verdict::Accepted => 0,
-        }
-    }
-}
-
-// Whether each buffer has its length.
-fn have_lengths(
-    vram: &[u8],
-    palette: &[u8],
-    oam: &[u8],
-    registers: &[u8],
-    entries: &[u8],
-    output: &[u8],
-) -> bool
-    ensures { result
-        ≡ have_lengths
-        (record {
-          vram = vram.entry.now;
-          palette = palette.now;
-          oam = oam.now;
-          registers = registers.now;
+        let reading = Reading::try_from(reading)?;
+        let memory = lent_memory(vram, palette, oam, registers)?;
+        Ok(Request {
+            reading,
+            line,
+            references,
+            memory,
         })
-        entries.now output.now }
-{
-    (vram.len() == VIDEO_RAM_SIZE)
-        & (palette.len() == PALETTE_RAM_SIZE)
-        & (oam.len() == OAM_SIZE)
-        & (registers.len() == REGISTERS_SIZE)
-        & (entries.len() == ENTRIES_SIZE)
-        & (output.len() == OUTPUT_SIZE)
-}
+    }
 
-// The verdict of a draw that has its lengths and a line of the screen.
-fn judge_line(reading: u32, references: References, registers: &[u8], entries: &[u8]) -> Verdict
-    requires { (length registers.now ≡ registers_size) × (length entries.now ≡ entries_size) }
-    ensures { result ≡ line_verdict reading references registers.now entries.now }
-{
-    let dispcnt = read_dispcnt(registers);
-    if dispcnt.force_blank {
-        return Verdict::Blank;
+    // The tests that follow those of the lengths, in the order of the numbers.
+    pub fn judge(&self, entries: &Entries) -> Result<Picture, Refusal>
+        ensures { result ≡ judged self.now entries.now }
+    {
+        if self.line >= LINES {
+            return Err(Refusal::BadLine);
+        }
+        let dispcnt = read_dispcnt(self.memory.registers);
+        if dispcnt.force_blank {
+            return Ok(Picture::Blank);
+        }
+        if dispcnt.mode > 5 {
+            return Err(Refusal::BadMode);
+        }
+        if self.reading.counted(read_bldy(self.memory.registers)) > 16 {
+            return Err(Refusal::BadBldy);
+        }
+        if !self.references.in_ranges() {
+            return Err(Refusal::BadReference);
+        }
+        if !shaped_row(entries) {
+            return Err(Refusal::BadEntry);
+        }
+        Ok(Picture::Drawn)
     }
-    if dispcnt.mode > 5 {
-        return Verdict::BadMode;
-    }
-    if (reading == 0) & (read_bldy(registers) > 16) {
-        return Verdict::BadBldy;
-    }
-    if !references.in_ranges() {
-        return Verdict::BadReference;
-    }
-    if shaped_row(entries) {
-        Verdict::Accepted
-    } else {
-        Verdict::BadEntry
-    }
-}
-
-// The verdict of a draw, in the order of the numbers.
-pub fn judge_draw(
-    reading: u32,
-    line: u32,
-    references: References,
-    vram: &[u8],
-    palette: &[u8],
-    oam: &[u8],
-    registers: &[u8],
-    entries: &[u8],
-    output: &[u8],
-) -> Verdict
-    ensures { result
-        ≡ verdict
-        (call_of reading line references
-        vram.now palette.now oam.now registers.now)
-        entries.now output.now }
-{
-    if reading > 1 {
-        return Verdict::BadReading;
-    }
-    if !have_lengths(vram, palette, oam, registers, entries, output) {
-        return Verdict::BadLength;
-    }
-    if line >= LINES {
-        return Verdict::BadLine;
-    }
-    judge_line(reading, references, registers, entries)
 }

@@ -15,6 +15,7 @@ pub enum Page {
 }
 
 // The page of an address, its topmost byte.
+#[tactic(auto, unfolding(crate::specs::Places::page_of))]
 pub fn page_of(addr: u32) -> Page
     ensures { result ≡ page_of addr }
 {
@@ -34,6 +35,7 @@ pub fn small_offset(addr: u32) -> usize
 }
 
 // The offset of an address in video memory, whose last 32 KiB are those before them once more.
+#[tactic(auto, unfolding(crate::specs::Places::video_offset))]
 pub fn video_offset(addr: u32) -> usize
     ensures { (result ≡ video_offset addr) × (result < 0x18000) }
 {

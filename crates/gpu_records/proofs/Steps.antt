@@ -2,10 +2,11 @@
 -- Assumes nothing.
 use Prim.Native.Nat.{ℕ}
 use mathlib.Core.Path.{◌≡◌, sym, ap, ◌∙◌}
+use Rattle.std.specs.declared.option.Option.{Option}
+use Rattle.std.specs.declared.option.Option.TheVariants.{None, Some}
 use Rattle.bg_points.specs.declared.references.References.{References}
 use Rattle.gpu_step.specs.declared.Steps.{Steps}
 use Rattle.gpu_step.specs.Step.{stepped, step_number, references_after}
-use Rattle.gpu_step.specs.declared.Stepped.{Stepped}
 use Rattle.gpu_step.proofs.Machine.{machine}
 use Rattle.gpu_step.proofs.Added.{references_found}
 use Rattle.gpu_step.proofs.Answers.{stepped_ranges}
@@ -13,16 +14,16 @@ use Rattle.gpu_records.specs.Step.{steps_of, references_of, moved_to, step_recor
 use Rattle.gpu_records.specs.declared.affine.BgAffine.{BgAffine}
 
 -- The steps s, the four numbers r and the answer a as code found them.
-module _ (bg2 bg3 : BgAffine) {s : Steps} {r : References} {a : Stepped} (s-is : s ≡ steps_of bg2 bg3)
+module _ (bg2 bg3 : BgAffine) {s : Steps} {r : References} {a : Option References} (s-is : s ≡ steps_of bg2 bg3)
     (r-is : r ≡ references_of bg2 bg3) (a-is : a ≡ stepped s r) where
   asked : stepped (steps_of bg2 bg3) (references_of bg2 bg3) ≡ a
   asked = rw (sym s-is, sym r-is) (sym a-is)
 
-  pub steps-refused : a ≡ Stepped.Refused → StepsRecords bg2 bg3 6 bg2 bg3
+  pub steps-refused : a ≡ None → StepsRecords bg2 bg3 6 bg2 bg3
   unfolding step_records moved_to step_number references_after
   steps-refused found = rw (asked ∙ found)
 
-  pub steps_done : {left2 left3 : BgAffine} (to : References) → a ≡ Stepped.To to
+  pub steps_done : {left2 left3 : BgAffine} (to : References) → a ≡ Some to
       → left2 ≡ moved_to bg2 (machine to).x2 (machine to).y2 → left3 ≡ moved_to bg3 (machine to).x3 (machine to).y3
       → StepsRecords bg2 bg3 0 left2 left3
   unfolding step_records step_number references_after

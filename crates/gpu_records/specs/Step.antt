@@ -5,7 +5,6 @@ use Rattle.bg_points.specs.declared.references.References.{References}
 use Rattle.gpu_step.specs.declared.Steps.{Steps}
 use Rattle.gpu_step.specs.Step.{stepped, step_number, references_after}
 use Rattle.gpu_records.specs.declared.affine.BgAffine.{BgAffine}
-use Rattle.gpu_records.specs.declared.affine.PairStep.{PairStep}
 
 -- pb and pd of both backgrounds.
 abbrev pub steps_of : BgAffine → BgAffine → Steps
@@ -29,6 +28,12 @@ moved_to bg x y =
       internal_x = x;
       internal_y = y;
     }
+
+-- What the step gives: its number, and both backgrounds afterwards.
+pub record PairStep : Type 0 where
+  pub number : ℕ
+  pub bg2 : BgAffine
+  pub bg3 : BgAffine
 
 -- What the step gives: the number of the step on numbers, and both backgrounds at its four.
 unfoldable pub step_records : BgAffine → BgAffine → PairStep

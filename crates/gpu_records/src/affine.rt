@@ -1,9 +1,11 @@
 // The line-end step on records (gpu/mod.rs, `BgAffine` and `handle_hblank_end`).
 ghost use Rattle.std.specs.Prelude.{◌≡◌};
-ghost use Rattle.gpu_records.specs.Step.{steps_of, references_of, moved_to, step_records};
+ghost use Rattle.refusals.specs.Refusal.{outcome_number};
+ghost use Rattle.gpu_records.specs.Step.{steps_of, references_of, moved_to, StepsRecords};
 
 use bg_points::References;
-use gpu_step::{Stepped, Steps, step_references};
+use gpu_step::{Steps, step_references};
+use refusals::Refusal;
 
 // A background's numbers for rotation and scaling: the matrix, the reference point as it was written, and as it is now.
 #[repr(C)]
@@ -19,22 +21,16 @@ pub struct BgAffine {
     pub internal_y: i32,
 }
 
-// What the step gives: its number, and both records afterwards.
-#[derive(Clone, Copy)]
-pub struct PairStep {
-    pub number: u32,
-    pub bg2: BgAffine,
-    pub bg3: BgAffine,
-}
-
 // A background with its point at x and y.
+#[tactic(auto, unfolding(crate::specs::Step::moved_to))]
 fn moved_to(bg: BgAffine, x: i32, y: i32) -> BgAffine
     ensures { result ≡ moved_to bg x y }
 {
-    let mut moved = bg;
-    moved.internal_x = x;
-    moved.internal_y = y;
-    moved
+    BgAffine {
+        internal_x: x,
+        internal_y: y,
+        ..bg
+    }
 }
 
 // pb and pd of both backgrounds.
@@ -62,24 +58,13 @@ fn references_of(bg2: BgAffine, bg3: BgAffine) -> References
 }
 
 // Both backgrounds stepped, or neither.
-pub fn step_pair(bg2: BgAffine, bg3: BgAffine) -> PairStep
-    ensures { result ≡ step_records bg2 bg3 }
+pub fn step_pair(bg2: &mut BgAffine, bg3: &mut BgAffine) -> Result<(), Refusal>
+    ensures { StepsRecords bg2.old bg3.old (outcome_number result) bg2.new bg3.new }
 {
-    let answer = step_references(steps_of(bg2, bg3), references_of(bg2, bg3));
-    match answer {
-        Stepped::Refused => PairStep {
-            number: 6,
-            bg2,
-            bg3,
-        },
-        Stepped::To(to) => {
-            let to2 = moved_to(bg2, to.x2, to.y2);
-            let to3 = moved_to(bg3, to.x3, to.y3);
-            PairStep {
-                number: 0,
-                bg2: to2,
-                bg3: to3,
-            }
-        }
-    }
+    let to = step_references(steps_of(*bg2, *bg3), references_of(*bg2, *bg3)).ok_or(
+        Refusal::BadReference,
+    )?;
+    *bg2 = moved_to(*bg2, to.x2, to.y2);
+    *bg3 = moved_to(*bg3, to.x3, to.y3);
+    Ok(())
 }

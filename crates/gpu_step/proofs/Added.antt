@@ -1,25 +1,26 @@
 -- A reference number and what a line adds to it. No contract cites this file. Assumes nothing.
-use Prim.Native.Nat.{ℕ, ◌+◌, ◌-◌, ◌^◌, ◌≤◌, ◌<◌}
+use Prim.Native.Nat.{ℕ, suc, ◌+◌, ◌-◌, ◌%◌, ◌^◌, ◌≤◌, ◌<◌}
+use native.Mathlib.Nat.{mod-eq_of_lt}
 use native.Mathlib.Omega.{arith}
-use mathlib.Core.Path.{◌≡◌, sym, ap₂, ◌∙◌}
-use mathlib.Core.Bool.{Bool, true, false, not}
-use lib.IntN.{ℤ, sub_ℕ, ◌+ℤ◌}
+use mathlib.Core.Path.{◌≡◌, refl, sym, ap, ap₂, ◌∙◌}
+use mathlib.Core.Bool.{Bool, true, false, cond, not}
+use lib.Dec.{ltb}
+use lib.IntN.{ℤ, pos, negsuc, sub_ℕ, ◌+ℤ◌}
 use lib.Signed.{mag}
 use mir.Syntax.{w16, w32}
 use mir.Val.{to_z, of_z}
-use borrow.Author.Tests.{not-true, not-false}
-use Rattle.signed.specs.Signed.{in_range, signed32}
+use borrow.Author.Tests.{not-true, not-false, ltb-false}
+use Rattle.signed.specs.Signed.{in_range, signed32, wrapped, word32}
 use Rattle.signed.proofs.Bias.{raised, raised_bound, subℕ-raised}
-use Rattle.signed.proofs.Difference.{subℕ-cross, add-subℕ}
+use Rattle.signed.proofs.Difference.{down, subℕ-view, add-subℕ}
 use Rattle.signed.proofs.Order.{mag-subℕ}
 use Rattle.signed.proofs.Range.{mag-in_range}
-use Rattle.signed.proofs.Words.{signed32_high}
+use Rattle.std.specs.declared.option.Option.TheVariants.{None, Some}
 use Rattle.bg_points.specs.References.{in_ranges}
 use Rattle.bg_points.proofs.Ranges.{ranges_true}
 use Rattle.bg_points.specs.declared.references.References.{References}
 use Rattle.gpu_step.specs.Step.{sums, stepped}
 use Rattle.gpu_step.specs.declared.Steps.{Steps}
-use Rattle.gpu_step.specs.declared.Stepped.{Stepped}
 use Rattle.gpu_step.proofs.Machine.{word_read, half-read, machine, references-read}
 
 -- Their sum has 32 bits.
@@ -35,9 +36,22 @@ mag_sum z p z-in p-small =
     in
     rw sum (mag-subℕ (a + b) (2 ^ 28 + 2 ^ 15) (2 ^ 31) (omega (arith, a<, b<)) (omega (arith, a<, b<)))
 
--- A word from 2^31 on, less 2^31 twice.
-pub signed32_less : (w : ℕ) → 2 ^ 31 ≤ w → sub_ℕ (w - 2 ^ 31) (2 ^ 31) ≡ signed32 w
-signed32_less w h = subℕ-cross (w - 2 ^ 31) (2 ^ 31) w (2 ^ 32) (omega arith) ∙ sym (signed32_high w h)
+-- A word read as signed is its number.
+pub word_cast : (w : ℕ) → w < 2 ^ 32 → to_z w32 w ≡ signed32 w
+unfolding signed32
+word_cast w w< = go (ltb w (2 ^ 31)) refl
+  where
+    go : (t : Bool) → ltb w (2 ^ 31) ≡ t → to_z w32 w ≡ cond t (pos w) (sub_ℕ w (2 ^ 32))
+    go true t = rw t refl
+    go false t =
+        let high : 2 ^ 31 ≤ w = ltb-false w (2 ^ 31) t in
+        rw t (let e : 2 ^ 32 - suc w ≡ 2 ^ 32 - 1 - w = omega arith in ap negsuc e ∙ sym (subℕ-view w (2 ^ 32) (down (2 ^ 32 - 1 - w) (omega arith))))
+
+-- The bits of a number are its word.
+pub word_bits : (z : ℤ) → mag z < 2 ^ 31 → of_z w32 z ≡ word32 z
+unfolding word32 wrapped
+word_bits (pos n) fits = sym (mod-eq_of_lt (omega arith))
+word_bits (negsuc n) fits = let e : n % 2 ^ 32 ≡ n = mod-eq_of_lt (omega arith) in rw e (omega arith)
 
 -- ---- numbers in range, as the machine has them
 
@@ -90,15 +104,15 @@ pub ranges_found : {t : Bool} (r : References) → t ≡ in_ranges r → not t �
 ranges_found r t-is n = sym t-is ∙ not-false _ n
 
 module _ (s : Steps) (r : References) {t : Bool} (t-is : t ≡ in_ranges r) where
-  pub stepped_not : not t ≡ true → Stepped.Refused ≡ stepped s r
+  pub stepped_not : not t ≡ true → None ≡ stepped s r
   unfolding stepped
   stepped_not n = rw (sym t-is ∙ not-true _ n)
 
   module _ (n : not t ≡ false) {to : References} (to_is : to ≡ sums s r) {u : Bool} (u-is : u ≡ in_ranges to) where
-    pub stepped_to : u ≡ true → Stepped.To to ≡ stepped s r
+    pub stepped_to : u ≡ true → Some to ≡ stepped s r
     unfolding stepped
     stepped_to in-range = rw (ranges_found r t-is n, sym to_is, sym u-is, in-range)
 
-    pub stepped_out : u ≡ false → Stepped.Refused ≡ stepped s r
+    pub stepped_out : u ≡ false → None ≡ stepped s r
     unfolding stepped
     stepped_out out = rw (ranges_found r t-is n, sym to_is, sym u-is, out)

@@ -1,6 +1,8 @@
 -- What the line-end step gives (01, "Numbers a draw may return", its last paragraph; GBATEK, "LCD I/O BG
 -- Rotation/Scaling"). Assumes nothing.
 use Rattle.std.specs.Prelude.{ℕ, ◌≡◌, cond, not, ◌&&◌, List, [], ◌∷◌, eqb, ℤ, ◌+ℤ◌, get_or, length}
+use Rattle.std.specs.declared.option.Option.{Option}
+use Rattle.std.specs.declared.option.Option.TheVariants.{None, Some}
 use Rattle.signed.specs.Signed.{signed32, word32}
 use Rattle.rows.specs.Answer.{Answer}
 use Rattle.rows.specs.Cells.{cell_at, row_of}
@@ -8,7 +10,6 @@ use Rattle.rows.specs.Words.{word_cells}
 use Rattle.bg_points.specs.References.{in_ranges}
 use Rattle.bg_points.specs.declared.references.References.{References}
 use Rattle.gpu_step.specs.declared.Steps.{Steps}
-use Rattle.gpu_step.specs.declared.Stepped.{Stepped}
 
 -- It adds pb to x and pd to y for both.
 unfoldable pub sums : Steps → References → References
@@ -16,20 +17,20 @@ sums s r =
     record { x2 = r.x2 +ℤ s.pb2; y2 = r.y2 +ℤ s.pd2; x3 = r.x3 +ℤ s.pb3; y3 = r.y3 +ℤ s.pd3 }
 
 -- The four, or none if any of them, before or after, is out of range.
-unfoldable pub stepped : Steps → References → Stepped
+unfoldable pub stepped : Steps → References → Option References
 stepped s r =
     let to = sums s r in
-    cond (in_ranges r && in_ranges to) (Stepped.To to) Stepped.Refused
+    cond (in_ranges r && in_ranges to) (Some to) None
 
 -- The number of each answer.
-unfoldable pub step_number : Stepped → ℕ
-step_number Stepped.Refused = 6
-step_number (Stepped.To to) = 0
+unfoldable pub step_number : Option References → ℕ
+step_number None = 6
+step_number (Some to) = 0
 
 -- The four reference numbers after each answer; a refusal leaves them unchanged.
-unfoldable pub references_after : Stepped → References → References
-references_after Stepped.Refused r = r
-references_after (Stepped.To to) r = to
+unfoldable pub references_after : Option References → References → References
+references_after None r = r
+references_after (Some to) r = to
 
 -- The four lie in 16 bytes, in the draw's order, little-endian.
 abbrev pub references_size : ℕ
@@ -53,9 +54,9 @@ unfoldable pub bytes_of : References → List ℕ
 bytes_of r = row_of word_cells (λ k. get_or (words_of r) k 0) 4
 
 -- The lent bytes after each answer; a refusal leaves them unchanged.
-unfoldable pub bytes_after : Stepped → List ℕ → List ℕ
-bytes_after Stepped.Refused bytes = bytes
-bytes_after (Stepped.To to) bytes = bytes_of to
+unfoldable pub bytes_after : Option References → List ℕ → List ℕ
+bytes_after None bytes = bytes
+bytes_after (Some to) bytes = bytes_of to
 
 -- What the step on lent bytes gives; another length gives 2, tested before 6.
 unfoldable pub step : Steps → List ℕ → Answer

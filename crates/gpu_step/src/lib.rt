@@ -2,25 +2,19 @@
 
 #![tactic(auto)]
 
-ghost use Rattle.std.specs.Prelude.{◌≡◌, true, ◌+◌, ◌*◌, ◌≤◌, ◌+ℤ◌, length};
-ghost use Rattle.rows.specs.Cells.{cell_at, put_cell};
-ghost use Rattle.rows.specs.Words.{word_cells};
-ghost use Rattle.signed.specs.Signed.{in_range, signed32, word32};
+ghost use Rattle.std.specs.Prelude.{◌≡◌, true, ◌<◌, ◌+ℤ◌};
+ghost use Rattle.signed.specs.Signed.{in_range};
+ghost use Rattle.refusals.specs.Refusal.{outcome_number};
 ghost use Rattle.bg_points.specs.References.{in_ranges};
-ghost use Rattle.gpu_step.specs.Step.{references_size, references_in, bytes_of, sums, stepped, StepsTo};
+ghost use Rattle.gpu_step.specs.Step.{reference_at, references_in, bytes_of, sums, stepped, StepsTo};
 
 use bg_points::References;
+use refusals::Refusal;
 use rows::{put_word, word_at};
-use signed::{drop_word, lift_i32};
+use std::array;
 
 // The four numbers in bytes.
 const REFERENCES_SIZE: usize = 16;
-
-// The words from 2^31 on stand for themselves less 2^32.
-const SIGN: u32 = 0x8000_0000;
-
-// The lowest number of 32 bits.
-const LOWEST: i32 = -0x7fff_ffff - 1;
 
 // pb and pd of both backgrounds, which a line adds to x and y.
 #[derive(Clone, Copy)]
@@ -31,19 +25,12 @@ pub struct Steps {
     pub pd3: i16,
 }
 
-// What the step gives: nothing, or the four reference numbers.
-#[derive(Clone, Copy)]
-pub enum Stepped {
-    Refused,
-    To(References),
-}
-
 // A reference number and what a line adds to it.
 fn sum(reference: i32, by: i16) -> i32
     requires { in_range reference ≡ true }
     ensures { result ≡ reference +ℤ by }
 {
-    reference + by as i32
+    reference + i32::from(by)
 }
 
 // The four sums.
@@ -59,83 +46,50 @@ fn sums(steps: Steps, references: References) -> References
 }
 
 // The step on numbers, for both backgrounds or not at all.
-pub fn step_references(steps: Steps, references: References) -> Stepped
+pub fn step_references(steps: Steps, references: References) -> Option<References>
     ensures { result ≡ stepped steps references }
 {
     if !references.in_ranges() {
-        return Stepped::Refused;
+        return None;
     }
     let to = sums(steps, references);
-    if to.in_ranges() {
-        Stepped::To(to)
-    } else {
-        Stepped::Refused
-    }
-}
-
-// The signed number of a word.
-fn signed_word(w: u32) -> i32
-    ensures { result ≡ signed32 w }
-{
-    if w < SIGN {
-        w as i32
-    } else {
-        (w - SIGN) as i32 + LOWEST
-    }
+    if to.in_ranges() { Some(to) } else { None }
 }
 
 // Number k of the lent four.
-fn reference_at(references: &[u8], k: usize) -> i32
-    requires { 4 * k + 4 ≤ length references.now }
-    ensures { result ≡ signed32 (cell_at word_cells references.now k) }
+fn reference_at(references: &[u8; REFERENCES_SIZE], k: usize) -> i32
+    requires { k < 4 }
+    ensures { result ≡ reference_at references.now k }
 {
-    signed_word(word_at(references, k))
+    word_at(references, k).cast_signed()
 }
 
 // The lent four.
-fn references_in(references: &[u8]) -> References
-    requires { length references.now ≡ references_size }
+fn references_in(references: &[u8; REFERENCES_SIZE]) -> References
     ensures { result ≡ references_in references.now }
 {
-    let x2 = reference_at(references, 0);
-    let y2 = reference_at(references, 1);
-    let x3 = reference_at(references, 2);
-    let y3 = reference_at(references, 3);
+    let [x2, y2, x3, y3]: [i32; 4] = array::from_fn(|k| reference_at(references, k));
     References { x2, y2, x3, y3 }
 }
 
-// Number k of the lent four set to z.
-fn put_reference(references: &mut [u8], k: usize, z: i32)
-    requires { (4 * k + 4 ≤ length references.old) × (in_range z ≡ true) }
-    ensures { references.new ≡ put_cell word_cells references.old k (word32 z) }
-{
-    put_word(references, k, drop_word(lift_i32(z)));
-}
-
-// The lent four set to numbers in range.
-fn put_references(references: &mut [u8], to: References)
-    requires { (length references.old ≡ references_size) × (in_ranges to ≡ true) }
+// The lent four set to others.
+fn put_references(references: &mut [u8; REFERENCES_SIZE], to: References)
     ensures { references.new ≡ bytes_of to }
 {
-    put_reference(references, 0, to.x2);
-    put_reference(references, 1, to.y2);
-    put_reference(references, 2, to.x3);
-    put_reference(references, 3, to.y3);
+    put_word(references, 0, to.x2.cast_unsigned());
+    put_word(references, 1, to.y2.cast_unsigned());
+    put_word(references, 2, to.x3.cast_unsigned());
+    put_word(references, 3, to.y3.cast_unsigned());
 }
 
-// The step on lent bytes, little-endian, in the draw's order: 0, or 2 for another length, or 6.
-pub fn step(steps: Steps, references: &mut [u8]) -> u32
-    ensures { StepsTo steps references.old result references.new }
+// The step on lent bytes, little-endian, in the draw's order.
+pub fn step(steps: Steps, references: &mut [u8]) -> Result<(), Refusal>
+    ensures { StepsTo steps references.old (outcome_number result) references.new }
 {
-    if references.len() != REFERENCES_SIZE {
-        return 2;
-    }
-    let answer = step_references(steps, references_in(references));
-    match answer {
-        Stepped::Refused => 6,
-        Stepped::To(to) => {
-            put_references(references, to);
-            0
-        }
-    }
+    let references: &mut [u8; REFERENCES_SIZE] = references
+        .as_mut_array()
+        .ok_or(Refusal::BadLength)?;
+    let to = step_references(steps, references_in(references)).ok_or(Refusal::BadReference)?;
+    put_references(references, to);
+    Ok(())
 }

@@ -1,14 +1,13 @@
 -- gpu::render_line meets its contract: its lines are those of the backgrounds, which are composed to the line.
 -- Assumes nothing.
-use Rattle.gpu.proofs.Lines.{line_composed, evy-read}
+use mathlib.Core.List.{[]}
 use borrow.Author.Rules.{rules}
+use Rattle.rows.proofs.Made.{made_tab}
+use Rattle.gpu.proofs.Lines.{read_of, line_composed}
 use Rattle.gpu.proofs.render_line.Goals as goal
 
 pub returns : goal.returns
 returns c =
-    line_composed _ c.read_dispcnt.ensures.bg_is
-    c.bg_line-line0.ensures c.bg_line-line1.ensures c.bg_line-line2.ensures c.bg_line-line3.ensures _
-    c.from.ensures c.finalize_scanline.ensures
-
-pub finalize_scanline-requires : goal.finalize_scanline-requires
-finalize_scanline-requires c = search (rules, evy-read, c.requires)
+    line_composed c.args.request.now (read_of c.memory.view_is c.read_dispcnt.ensures).bg_is
+    (made_tab _ _ _ _ _ [] (λ i y q i<. search rules) c.from_fn-lines.ensures.items)
+    c.args.entries.now c.finalize_scanline.ensures

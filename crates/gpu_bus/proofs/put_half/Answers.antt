@@ -6,4 +6,4 @@ use Rattle.gpu_bus.proofs.put_half.Goals as goal
 
 pub returns : goal.returns
 unfolding put_at
-returns c = rw put_from_at (search rules)
+returns c = rw (put_from_at, c.to_le_bytes.ensures) (search rules)

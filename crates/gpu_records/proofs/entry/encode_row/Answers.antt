@@ -15,9 +15,9 @@ loop-k-init c = started entry_cells refl
 
 pub loop-k-preserved : goal.loop-k-preserved
 loop-k-preserved c =
-    let within : c.loop-k.k < length c.args.records = omega arith in
+    let within : c.loop-k.k < length c.args.records.now = omega arith in
     turned entry_cells c.loop-k.invariant c.loop-k-test.true c.put_entry.ensures
-    (c.entry_of.ensures ∙ ap entry_of_record (get_or-within c.args.records _ _ reset_record within))
+    (c.from.ensures ∙ ap entry_of_record (get_or-within c.args.records.now _ _ reset_record within))
 
 pub returns : goal.returns
 returns c = row_bytes_filled _ (omega arith) c.loop-k.invariant c.loop-k-test.false

@@ -1,6 +1,5 @@
 -- gpu_records::entry::encode_row meets its contract: a turn puts the entry of a record in its cell.
 -- Assumes nothing.
-use Prim.Native.Nat.{◌-◌}
 use Rattle.rows.proofs.Passed.{Passed}
 use Rattle.obj_entries.specs.Entry.{entry_cells}
 use Rattle.gpu_records.proofs.Rows.{entry_at}
@@ -8,6 +7,3 @@ use Rattle.gpu_records.proofs.entry.encode_row.Given as goal
 
 abbrev pub invariant-loop-k : goal.invariant-loop-k
 invariant-loop-k l = Passed entry_cells (λ j _. entry_at l.records j) 240 l.initial.bytes l.k l.bytes
-
-abbrev pub decreases-loop-k : goal.decreases-loop-k
-decreases-loop-k l = 240 - l.k
