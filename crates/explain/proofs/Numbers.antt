@@ -7,55 +7,40 @@ use mathlib.Core.Bool.{Bool, true, false, cond, false≢true}
 use mathlib.Core.List.{List}
 use mathlib.Core.Logic.{◌↔◌}
 use lib.Dec.{eqb, ltb}
-use lib.ListN.{length, replicate}
+use lib.ListN.{length}
 use borrow.Author.Tests.{eqb-true, eqb-false, ne_eqb, lt-ltb, le-ltb, ltb-true, ltb-false}
-use Rattle.rows.proofs.Tab.{tab_replicate}
+use Rattle.rows.proofs.Tab.{length-tab}
 use Rattle.memory.specs.Sizes.{registers_size}
 use Rattle.regs.specs.Registers.{dispcnt}
-use Rattle.regs.specs.Display.{force_blank, DisplayControlOf}
-use Rattle.regs.specs.declared.DisplayControl.{DisplayControl}
+use Rattle.regs.specs.Display.{force_blank}
 use Rattle.regs.specs.Reading.{reading_of}
 use Rattle.bg_points.specs.declared.references.References.{References}
-use Rattle.gpu_judge.specs.Judge.{Call, call_of, verdict, number_of}
-use Rattle.gpu_judge.specs.Code.{Lengths, Ready}
-use Rattle.gpu_judge.specs.declared.Verdict.{Verdict}
-use Rattle.gpu_judge.specs.declared.Verdict.TheVariants.{Blank, Accepted}
-use Rattle.gpu_judge.proofs.Verdicts.{verdict_cases}
+use Rattle.std.specs.declared.result.Result.{Result}
+use Rattle.std.specs.declared.result.Result.TheVariants.{Ok, Err}
+use Rattle.refusals.specs.Refusal.{refusal_number, outcome_number}
+use Rattle.refusals.specs.declared.Refusal.{Refusal}
+use Rattle.obj_entries.specs.Entry.{entries_size}
+use Rattle.gpu_judge.specs.Judge.{Call, call_of, verdict}
+use Rattle.gpu_judge.specs.Code.{Lengths, Ready, next, request, judged, call_in}
+use Rattle.gpu_judge.specs.declared.Picture.{Picture}
+use Rattle.gpu_judge.specs.declared.Picture.TheVariants.{Blank, Drawn}
+use Rattle.gpu_judge.specs.declared.Request.{Request}
+use Rattle.gpu_judge.proofs.Verdicts.{verdict_unasked, verdict_short, verdict_judged, call_asked, verdict_cases}
 use Rattle.gpu.specs.Line.{entries_after}
 use Rattle.gpu.specs.Draw.{given, draw}
 use Rattle.explain.specs.Reason.{refused_reason, blank_reason, case_reason}
 use Rattle.explain.specs.Explain.{case_at, whole_output, explain_number, explain, Explains}
-use Rattle.explain.specs.Code.{Explainable, ReasonAt}
+use Rattle.explain.specs.Code.{column_reason, shown_reason, found}
 use Rattle.explain.specs.declared.Reason.{Reason}
 
 -- ---- a draw's number
 
 -- A draw's number is its verdict's.
-pub draw-number : (c : Call) (entries output : List ℕ) → (draw c entries output).number ≡ number_of (verdict c entries output)
-unfolding draw given
+pub draw-number : (c : Call) (entries output : List ℕ) → (draw c entries output).number ≡ outcome_number (verdict c entries output)
+unfolding draw given outcome_number refusal_number
 draw-number c entries output =
-    verdict_cases c entries output (λ v. (given v c entries output).number ≡ number_of v)
+    verdict_cases c entries output (λ v. (given v c entries output).number ≡ outcome_number v)
     refl refl refl (λ _ _. refl) refl refl refl (λ _. refl) (λ _ _. refl)
-
--- ---- what the tests make of the number
-
-module _ (c : Call) (entries : List ℕ) (column : ℕ) {v : Verdict} (v-is : v ≡ verdict c entries (replicate 960 0))
-    {n : ℕ} (n-is : n ≡ number_of v) where
-  -- The number as code found it is the draw's.
-  found : n ≡ number_of (verdict c entries whole_output)
-  found = n-is ∙ ap number_of (v-is ∙ ap (verdict c entries) (tab_replicate 0 960))
-
-  pub number-refused : (n ≡ 0 → ⊥) → n ≡ explain_number c entries column
-  unfolding explain_number
-  number-refused not = rw (sym found, ne_eqb n 0 not)
-
-  pub number-inside : n ≡ 0 → column < 240 → 0 ≡ explain_number c entries column
-  unfolding explain_number
-  number-inside zero inside = rw (sym found, zero, lt-ltb column 240 inside)
-
-  pub number_outside : n ≡ 0 → 240 ≤ column → 8 ≡ explain_number c entries column
-  unfolding explain_number
-  number_outside zero out = rw (sym found, zero, le-ltb column 240 out)
 
 -- ---- what the number tells
 
@@ -65,13 +50,13 @@ is_blank c = force_blank (dispcnt c.memory.registers)
 
 module _ (c : Call) (entries : List ℕ) where
   -- A draw's 0 is that of forced blank, or of an input which passed all tests.
-  pub zero_cases : (output : List ℕ) (P : Verdict → Type 0)
-      → (is_blank c ≡ true → Lengths c.memory entries output → P Blank)
-      → (is_blank c ≡ false → Ready c entries output → P Accepted)
-      → number_of (verdict c entries output) ≡ 0 → P (verdict c entries output)
-  unfolding number_of
+  pub zero_cases : (output : List ℕ) (P : Result Picture Refusal → Type 0)
+      → (is_blank c ≡ true → Lengths c.memory entries output → P (Ok Blank))
+      → (is_blank c ≡ false → Ready c entries output → P (Ok Drawn))
+      → outcome_number (verdict c entries output) ≡ 0 → P (verdict c entries output)
+  unfolding outcome_number refusal_number
   zero_cases output P blank accepted =
-      verdict_cases c entries output (λ v. number_of v ≡ 0 → P v)
+      verdict_cases c entries output (λ v. outcome_number v ≡ 0 → P v)
       (λ e. absurd (omega arith)) (λ e. absurd (omega arith)) (λ e. absurd (omega arith))
       (λ on lengths _. blank on lengths)
       (λ e. absurd (omega arith)) (λ e. absurd (omega arith)) (λ e. absurd (omega arith)) (λ _ e. absurd (omega arith))
@@ -84,18 +69,18 @@ module _ (c : Call) (entries : List ℕ) where
   abbrev Passed : Type 0
   Passed = (length registers ≡ registers_size) × (is_blank c ≡ false → Ready c entries whole_output)
 
-  pub passed : number_of (verdict c entries whole_output) ≡ 0 → Passed
+  pub passed : outcome_number (verdict c entries whole_output) ≡ 0 → Passed
   passed =
       zero_cases whole_output (λ _. Passed)
-      (λ on lengths. (lengths.registers_is, λ off. absurd (false≢true (sym off ∙ on))))
-      (λ _ ready. (ready.lengths.registers_is, λ _. ready))
+      (λ on lengths. (lengths.memory_is.registers_is, λ off. absurd (false≢true (sym off ∙ on))))
+      (λ _ ready. (ready.lengths.memory_is.registers_is, λ _. ready))
 
   module _ (column : ℕ) where
     -- A number of 0 comes of a draw's 0 and a column below 240, and of nothing else.
-    pub number-zero : (explain_number c entries column ≡ 0) ↔ ((number_of (verdict c entries whole_output) ≡ 0) × (column < 240))
+    pub number-zero : (explain_number c entries column ≡ 0) ↔ ((outcome_number (verdict c entries whole_output) ≡ 0) × (column < 240))
     unfolding explain_number
     number-zero =
-        let n = number_of (verdict c entries whole_output) in go n (eqb n 0) (ltb column 240) refl refl
+        let n = outcome_number (verdict c entries whole_output) in go n (eqb n 0) (ltb column 240) refl refl
       where
         go : (n : ℕ) (none inside : Bool) → eqb n 0 ≡ none → ltb column 240 ≡ inside
             → (cond none (cond inside 0 8) n ≡ 0) ↔ ((n ≡ 0) × (column < 240))
@@ -103,30 +88,72 @@ module _ (c : Call) (entries : List ℕ) where
         go n true false s t = (λ e. absurd (omega arith), λ both. absurd (omega (arith, ltb-false column 240 t, both.1)))
         go n false inside s t = (λ e. absurd (eqb-false n 0 s e), λ both. both.0)
 
-    module _ {n : ℕ} (n-is : n ≡ explain_number c entries column) where
-      pub explains-refused : {r : Reason} → (n ≡ 0 → ⊥) → r ≡ refused_reason n → Explains c entries column r
-      unfolding explain
-      explains-refused not r-is = rw (sym n-is, ne_eqb n 0 not) r-is
+-- ---- what code finds
 
-      module _ (zero : n ≡ 0) where
-        tells : (number_of (verdict c entries whole_output) ≡ 0) × (column < 240)
-        tells = number-zero.0 (sym n-is ∙ zero)
+-- What is answered for what is found.
+abbrev answer : Result Reason Refusal → Reason
+answer (Ok reason) = reason
+answer (Err refusal) = refused_reason (refusal_number refusal)
 
-        pub registers_passed : length registers ≡ registers_size
-        registers_passed = (passed tells.0).0
+module _ (c : Call) (entries : List ℕ) (column : ℕ) where
+  explain_found : answer (found c entries column) ≡ explain c entries column
+  unfolding found explain explain_number outcome_number refusal_number
+  explain_found =
+      verdict_cases c entries whole_output
+      (λ v.
+      answer (next v (λ picture. cond (ltb column 240) (Ok (shown_reason picture c entries column)) (Err Refusal.BadColumn)))
+      ≡ (let n = cond (eqb (outcome_number v) 0) (cond (ltb column 240) 0 8) (outcome_number v) in
+      cond (eqb n 0) (cond (is_blank c) blank_reason (column_reason c entries column)) (refused_reason n)))
+      refl refl refl (λ on _. blank on (ltb column 240)) refl refl refl (λ _. refl) (λ off _. drawn off (ltb column 240))
+    where
+      blank : is_blank c ≡ true → (t : Bool)
+          → answer (cond t (Ok blank_reason) (Err Refusal.BadColumn))
+          ≡ (let n : ℕ = cond t 0 8 in
+          cond (eqb n 0) (cond (is_blank c) blank_reason (column_reason c entries column)) (refused_reason n))
+      blank on true = rw on
+      blank on false = refl
 
-        module _ {d : DisplayControl} (d-is : DisplayControlOf (dispcnt registers) d) where
-          pub explains-blank : {r : Reason} → d.force_blank ≡ true → r ≡ blank_reason → Explains c entries column r
-          unfolding explain
-          explains-blank on r-is = rw (sym n-is, zero, sym d-is.blank_is, on) r-is
+      drawn : is_blank c ≡ false → (t : Bool)
+          → answer (cond t (Ok (column_reason c entries column)) (Err Refusal.BadColumn))
+          ≡ (let n : ℕ = cond t 0 8 in
+          cond (eqb n 0) (cond (is_blank c) blank_reason (column_reason c entries column)) (refused_reason n))
+      drawn off true = rw off
+      drawn off false = refl
 
-          module _ (off : d.force_blank ≡ false) where
-            pub explainable : Explainable c entries column
-            explainable = record { ready = (passed tells.0).1 (sym d-is.blank_is ∙ off); column< = tells.1 }
+  module _ {f : Result Reason Refusal} (f-is : f ≡ found c entries column) where
+    pub explains_reason : {r : Reason} → f ≡ Ok r → Explains c entries column r
+    explains_reason is = ap answer (sym is ∙ f-is) ∙ explain_found
 
-            pub explains_column : {r : Reason} → ReasonAt c entries column r → Explains c entries column r
-            unfolding explain
-            explains_column r-is = rw (sym n-is, zero, sym d-is.blank_is, off) r-is
+    pub explains_refused : {x : Refusal} {r : Reason} → f ≡ Err x → r ≡ refused_reason (refusal_number x) → Explains c entries column r
+    explains_refused is r-is = r-is ∙ ap answer (sym is ∙ f-is) ∙ explain_found
+
+  pub found_unasked : {x : Refusal} → request c ≡ Err x → found c entries column ≡ Err x
+  unfolding found
+  found_unasked refused = rw (verdict_unasked c entries whole_output refused)
+
+  module _ {r : Request} (asks : request c ≡ Ok r) where
+    pub found_short : (length entries ≡ entries_size → ⊥) → found c entries column ≡ Err Refusal.BadLength
+    unfolding found
+    found_short n = rw (verdict_short c entries whole_output asks n)
+
+    module _ {e : List ℕ} (e-is : e ≡ entries) (whole : length e ≡ entries_size) where
+      verdict_whole : verdict c entries whole_output ≡ judged r e
+      verdict_whole = rw (sym e-is) (verdict_judged c e whole_output asks whole (length-tab _ 960))
+
+      pub found_refused : {x : Refusal} → judged r e ≡ Err x → found c entries column ≡ Err x
+      unfolding found
+      found_refused is = rw (verdict_whole ∙ is)
+
+      module _ {p : Picture} (is : judged r e ≡ Ok p) where
+        pub found_outside : 240 ≤ column → found c entries column ≡ Err Refusal.BadColumn
+        unfolding found
+        found_outside out = rw (verdict_whole ∙ is, le-ltb column 240 out)
+
+        pub found_reason : column < 240 → {reason : Reason} → reason ≡ shown_reason p (call_in r) e column
+            → found c entries column ≡ Ok reason
+        unfolding found
+        found_reason inside reason_is =
+            rw (verdict_whole ∙ is, lt-ltb column 240 inside, reason_is, call_asked c asks, e-is) refl
 
 -- ---- what the reason is
 

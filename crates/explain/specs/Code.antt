@@ -1,29 +1,36 @@
--- As code has it: what a column of an accepted draw has, and its reason (02, W-202).
+-- As code has it: the reason of a column, and what is found of one (02, W-202).
 -- No exported contract reaches this file. Assumes nothing.
-use Rattle.std.specs.Prelude.{ℕ, ◌≤◌, ◌<◌, ◌≡◌, List, length}
-use Rattle.memory.specs.Sizes.{palette_ram_size, registers_size}
-use Rattle.regs.specs.Registers.{bldy}
-use Rattle.regs.specs.Reading.{reading_of, counted}
-use Rattle.regs.specs.declared.reading.Reading.{Reading}
-use Rattle.gpu_judge.specs.Judge.{Call}
-use Rattle.gpu_judge.specs.Code.{Ready}
+use Rattle.std.specs.Prelude.{ℕ, ◌≡◌, cond, List, ltb}
+use Rattle.std.specs.declared.result.Result.{Result}
+use Rattle.std.specs.declared.result.Result.TheVariants.{Ok, Err}
+use Rattle.memory.specs.Sizes.{display_width}
+use Rattle.refusals.specs.declared.Refusal.{Refusal}
+use Rattle.regs.specs.Reading.{reading_of}
+use Rattle.gpu_judge.specs.Judge.{Call, verdict}
+use Rattle.gpu_judge.specs.Code.{next}
+use Rattle.gpu_judge.specs.declared.Picture.{Picture}
+use Rattle.gpu_judge.specs.declared.Picture.TheVariants.{Blank, Drawn}
 use Rattle.gpu.specs.Line.{entries_after}
-use Rattle.explain.specs.Reason.{case_reason}
+use Rattle.explain.specs.Reason.{blank_reason, case_reason}
 use Rattle.explain.specs.Explain.{case_at, whole_output}
 use Rattle.explain.specs.declared.Reason.{Reason}
 
--- A column of a draw that would be accepted.
-pub record Explainable (c : Call) (entries : List ℕ) (column : ℕ) : Type 0 where
-  pub ready : Ready c entries whole_output
-  pub column< : column < 240
-
--- What layers are composed from: lengths, and a weight of a fade that a blend takes.
-pub record Composed (palette registers : List ℕ) (reading : Reading) : Type 0 where
-  pub palette_is : length palette ≡ palette_ram_size
-  pub registers_is : length registers ≡ registers_size
-  pub evy≤ : counted reading (bldy registers) ≤ 16
+-- The reason of a column's case.
+abbrev pub column_reason : Call → List ℕ → ℕ → Reason
+column_reason c entries column =
+    case_reason (reading_of c.reading) c.memory.registers (case_at c (entries_after c entries) column)
 
 -- A reason is that of a column's case.
 abbrev pub ReasonAt : Call → List ℕ → ℕ → Reason → Type 0
-ReasonAt c entries column r =
-    r ≡ case_reason (reading_of c.reading) c.memory.registers (case_at c (entries_after c entries) column)
+ReasonAt c entries column r = r ≡ column_reason c entries column
+
+-- The reason of what a draw shows.
+abbrev pub shown_reason : Picture → Call → List ℕ → ℕ → Reason
+shown_reason Blank c entries column = blank_reason
+shown_reason Drawn c entries column = column_reason c entries column
+
+-- What is found of a column: the draw's refusal, that of the column, or the reason.
+unfoldable pub found : Call → List ℕ → ℕ → Result Reason Refusal
+found c entries column =
+    next (verdict c entries whole_output)
+    (λ picture. cond (ltb column display_width) (Ok (shown_reason picture c entries column)) (Err Refusal.BadColumn))

@@ -11,7 +11,8 @@ use Rattle.regs.specs.Reading.{reading_of}
 use Rattle.obj_entries.specs.Entry.{entry_cells}
 use Rattle.sfx_layers.specs.Layers.{backgrounds}
 use Rattle.sfx.specs.Pixel.{Case, case_of}
-use Rattle.gpu_judge.specs.Judge.{Call, verdict, number_of}
+use Rattle.refusals.specs.Refusal.{outcome_number}
+use Rattle.gpu_judge.specs.Judge.{Call, verdict}
 use Rattle.gpu.specs.Line.{entries_after, color_of}
 use Rattle.explain.specs.Reason.{refused_reason, blank_reason, case_reason}
 use Rattle.explain.specs.declared.Reason.{Reason}
@@ -30,7 +31,7 @@ whole_output = tab (λ _. 0) output_size
 -- The number: a draw's with a whole output, and then 8 for a column of 240 or more.
 unfoldable pub explain_number : Call → List ℕ → ℕ → ℕ
 explain_number c entries column =
-    let n = number_of (verdict c entries whole_output) in
+    let n = outcome_number (verdict c entries whole_output) in
     cond (eqb n 0) (cond (ltb column display_width) 0 8) n
 
 -- What an explanation gives: a refusal, forced blank, or the reason of the column's case.

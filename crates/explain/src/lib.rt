@@ -2,20 +2,24 @@
 
 #![tactic(auto)]
 
-ghost use Rattle.std.specs.Prelude.{◌≡◌, ◌<◌, get_or};
+ghost use Rattle.std.specs.Prelude.{◌≡◌, ◌≤◌, ◌<◌, false, get_or};
+ghost use Rattle.refusals.specs.Refusal.{refusal_number};
 ghost use Rattle.rgb15.specs.Colour.{rgb};
 ghost use Rattle.rows.specs.Cells.{cell_at};
 ghost use Rattle.memory.specs.Palette.{backdrop};
+ghost use Rattle.regs.specs.Registers.{bldy};
+ghost use Rattle.regs.specs.Reading.{counted};
 ghost use Rattle.obj_entries.specs.Entry.{entry_cells};
 ghost use Rattle.bg.specs.Code.{Drawable};
 ghost use Rattle.sfx_layers.specs.Layers.{backgrounds};
 ghost use Rattle.sfx.specs.Pixel.{case_of};
 ghost use Rattle.gpu_judge.specs.Judge.{call_of};
+ghost use Rattle.gpu_judge.specs.Code.{Pictured, call_in};
 ghost use Rattle.gpu.specs.Code.{color_if_on};
 ghost use Rattle.gpu.specs.Line.{entries_after};
 ghost use Rattle.explain.specs.Reason.{region_number, refused_reason, blank_reason, case_reason};
-ghost use Rattle.explain.specs.Explain.{explain_number, Explains};
-ghost use Rattle.explain.specs.Code.{Explainable, Composed, ReasonAt};
+ghost use Rattle.explain.specs.Explain.{Explains};
+ghost use Rattle.explain.specs.Code.{ReasonAt, found};
 
 use bg_points::References;
 use explain_effects::{column_effect, effect_weights};
@@ -23,13 +27,15 @@ use explain_layers::column_layers;
 use explain_obj::column_entry;
 use explain_region::column_region;
 use gpu::bg_line;
-use gpu_judge::judge_draw;
-use memory::{DISPLAY_WIDTH, OUTPUT_SIZE, read_backdrop};
-use obj_entries::{Entry, entry_at};
+use gpu_judge::{Picture, Request};
+use memory::{DISPLAY_WIDTH, Memory, read_backdrop};
+use obj_entries::{Entries, Entry, entry_at};
+use refusals::Refusal;
 use regs::Reading;
 use regs::iodev::read_dispcnt;
 use rgb15::Rgb15;
 use sfx_regions::{WindowType, window_flags};
+use std::array;
 
 // Columns of the screen, as a column is asked for.
 const COLUMNS: u32 = DISPLAY_WIDTH as u32;
@@ -42,7 +48,7 @@ const BLANK: u32 = 0xf8f8f8;
 
 // The region, the two layers, the effect and the weights of a column, by their numbers, and the pixel that follows.
 #[repr(C)]
-#[derive(Clone, Copy)]
+#[derive(Clone, Copy, Default)]
 pub struct Reason {
     pub number: u32,
     pub blank: u32,
@@ -71,22 +77,13 @@ fn region_number(kind: WindowType) -> u32
 }
 
 impl Reason {
-    // A reason that names nothing but its number.
-    fn refused(number: u32) -> Reason
-        ensures { result ≡ refused_reason number }
+    // A reason that names nothing but the number of a refusal.
+    fn refused(refusal: Refusal) -> Reason
+        ensures { result ≡ refused_reason (refusal_number refusal) }
     {
         Reason {
-            number,
-            blank: 0,
-            region: 0,
-            top: 0,
-            bottom: 0,
-            effect: 0,
-            top_color: 0,
-            bottom_color: 0,
-            first_weight: 0,
-            second_weight: 0,
-            pixel: 0,
+            number: u32::from(refusal),
+            ..Reason::default()
         }
     }
 
@@ -95,103 +92,25 @@ impl Reason {
         ensures { result ≡ blank_reason }
     {
         Reason {
-            number: 0,
             blank: 1,
-            region: 0,
             top: NO_LAYER,
             bottom: NO_LAYER,
-            effect: 0,
-            top_color: 0,
-            bottom_color: 0,
-            first_weight: 0,
-            second_weight: 0,
             pixel: BLANK,
+            ..Reason::default()
         }
     }
 }
 
-// The number of an explanation: the draw's, which is judged with an output of the length that it asks for, and then 8.
-fn judge_column(
-    reading: u32,
-    line: u32,
-    references: References,
-    vram: &[u8],
-    palette: &[u8],
-    oam: &[u8],
-    registers: &[u8],
-    entries: &[u8],
-    column: u32,
-) -> u32
-    ensures { result
-        ≡ explain_number
-        (call_of reading line references
-        vram.now palette.now oam.now registers.now)
-        entries.now column }
-{
-    let output = [0u8; OUTPUT_SIZE];
-    let verdict = judge_draw(
-        reading, line, references, vram, palette, oam, registers, entries, &output,
-    );
-    let number = verdict.number();
-    if number != 0 {
-        return number;
-    }
-    if column < COLUMNS { 0 } else { 8 }
-}
-
-// The colour of a background at a column, by its line.
-fn bg_color(
-    vram: &[u8],
-    palette: &[u8],
-    registers: &[u8],
-    references: References,
-    on: bool,
-    bg: usize,
-    line: usize,
-    column: usize,
-) -> Rgb15
-    requires { Drawable vram.now palette.now registers.now references bg line × (column < 240) }
-    ensures { result.0
-        ≡ color_if_on on vram.now palette.now registers.now references bg column line }
-{
-    let row = bg_line(vram, palette, registers, references, on, bg, line);
-    row[column]
-}
-
 // The entry of a column as it stands after the draw.
-fn entry_after(
-    reading: u32,
-    line: u32,
-    references: References,
-    vram: &[u8],
-    palette: &[u8],
-    oam: &[u8],
-    registers: &[u8],
-    entries: &[u8],
-    column: usize,
-) -> Entry
-    requires { Explainable (call_of reading line references vram.now palette.now oam.now registers.now) entries.now column }
-    ensures { result
-        ≡ cell_at entry_cells
-        (entries_after
-        (call_of reading line references
-        vram.now palette.now oam.now registers.now)
-        entries.now)
-        column }
+fn entry_after(request: &Request, entries: &Entries, column: usize) -> Entry
+    requires { (request.now.line < 160) × (column < 240) }
+    ensures { result ≡ cell_at entry_cells (entries_after (call_in request.now) entries.now) column }
 {
+    let memory = &request.memory;
     let e = entry_at(entries, column);
-    let dispcnt = read_dispcnt(registers);
+    let dispcnt = read_dispcnt(memory.registers);
     if dispcnt.enable_obj {
-        column_entry(
-            e,
-            vram,
-            palette,
-            oam,
-            registers,
-            Reading::from(reading),
-            line as usize,
-            column,
-        )
+        column_entry(e, memory, request.reading, request.line as usize, column)
     } else {
         e
     }
@@ -199,43 +118,41 @@ fn entry_after(
 
 // The reason of a column, by its entry and the colours of backgrounds 0 to 3.
 fn compose_reason(
-    palette: &[u8],
-    registers: &[u8],
+    memory: &Memory,
     reading: Reading,
     line: usize,
     column: usize,
     colors: [Rgb15; 4],
     e: Entry,
 ) -> Reason
-    requires { Composed palette.now registers.now reading }
+    requires { counted reading (bldy memory.now.registers) ≤ 16 }
     ensures { result
-        ≡ case_reason reading registers.now
-        (case_of reading registers.now (backdrop palette.now)
-        (backgrounds registers.now (λ bg. (get_or colors bg (rgb 0)).0))
+        ≡ case_reason reading memory.now.registers
+        (case_of reading memory.now.registers (backdrop memory.now.palette)
+        (backgrounds memory.now.registers (λ bg. (get_or colors bg (rgb 0)).0))
         e column line) }
 {
+    let registers = memory.registers;
     let kind = column_region(registers, reading, e.marks / 0x2 % 2 == 1, column, line);
     let flags = window_flags(registers, kind);
-    let layers = column_layers(registers, flags, read_backdrop(palette), colors, e);
+    let layers = column_layers(registers, flags, read_backdrop(memory.palette), colors, e);
     let top = layers.top;
     let bottom = layers.bottom;
-    let top_kind = top.kind;
-    let bottom_kind = bottom.kind;
     let effect = column_effect(
         registers,
         flags,
         e.marks / 0x1 % 2 == 1,
-        top_kind,
-        bottom_kind,
+        top.kind,
+        bottom.kind,
     );
     let weights = effect_weights(registers, reading, effect);
     Reason {
         number: 0,
         blank: 0,
         region: region_number(kind),
-        top: top_kind.target_bit() as u32,
-        bottom: bottom_kind.target_bit() as u32,
-        effect: effect.number(),
+        top: u32::from(top.kind.target_bit()),
+        bottom: u32::from(bottom.kind.target_bit()),
+        effect: u32::from(effect),
         top_color: top.color.0,
         bottom_color: bottom.color.0,
         first_weight: weights.first,
@@ -245,7 +162,29 @@ fn compose_reason(
 }
 
 // The reason of a column of an accepted draw.
-fn explain_column(
+fn explain_column(request: &Request, entries: &Entries, column: usize) -> Reason
+    requires { Pictured request.now × (column < 240) }
+    ensures { ReasonAt (call_in request.now) entries.now column result }
+{
+    let memory = &request.memory;
+    let references = request.references;
+    let y = request.line as usize;
+    let on = read_dispcnt(memory.registers).enable_bg;
+    let colors = array::from_fn(
+        |bg: usize| -> Rgb15
+            requires { Drawable memory.now references bg y × (column < 240) }
+            ensures { result ≡ rgb (color_if_on (get_or on bg false) memory.entry.now references bg column y) }
+        {
+            let row = bg_line(memory, references, on[bg], bg, y);
+            row[column]
+        },
+    );
+    let e = entry_after(request, entries, column);
+    compose_reason(memory, request.reading, y, column, colors, e)
+}
+
+// The reason of a column, or the refusal: the draw's, of an output that has its length, and then that of the column.
+fn find_reason(
     reading: u32,
     line: u32,
     references: References,
@@ -254,27 +193,24 @@ fn explain_column(
     oam: &[u8],
     registers: &[u8],
     entries: &[u8],
-    column: usize,
-) -> Reason
-    requires { Explainable (call_of reading line references vram.now palette.now oam.now registers.now) entries.now column }
-    ensures { ReasonAt
+    column: u32,
+) -> Result<Reason, Refusal>
+    ensures { result
+        ≡ found
         (call_of reading line references
         vram.now palette.now oam.now registers.now)
-        entries.now column result }
+        entries.now column }
 {
-    let y = line as usize;
-    let on = read_dispcnt(registers).enable_bg;
-    let colors = [
-        bg_color(vram, palette, registers, references, on[0], 0, y, column),
-        bg_color(vram, palette, registers, references, on[1], 1, y, column),
-        bg_color(vram, palette, registers, references, on[2], 2, y, column),
-        bg_color(vram, palette, registers, references, on[3], 3, y, column),
-    ];
-    let e = entry_after(
-        reading, line, references, vram, palette, oam, registers, entries, column,
-    );
-    let counted = Reading::from(reading);
-    compose_reason(palette, registers, counted, y, column, colors, e)
+    let request = Request::new(reading, line, references, vram, palette, oam, registers)?;
+    let entries: &Entries = entries.as_array().ok_or(Refusal::BadLength)?;
+    let picture = request.judge(entries)?;
+    if column >= COLUMNS {
+        return Err(Refusal::BadColumn);
+    }
+    match picture {
+        Picture::Blank => Ok(Reason::blank()),
+        Picture::Drawn => Ok(explain_column(&request, entries, column as usize)),
+    }
 }
 
 // Why a column of a draw has its colour, or a refusal; nothing lent is written.
@@ -294,24 +230,10 @@ pub fn explain(
         vram.now palette.now oam.now registers.now)
         entries.now column result }
 {
-    let number = judge_column(
+    match find_reason(
         reading, line, references, vram, palette, oam, registers, entries, column,
-    );
-    if number != 0 {
-        return Reason::refused(number);
+    ) {
+        Ok(reason) => reason,
+        Err(refusal) => Reason::refused(refusal),
     }
-    if read_dispcnt(registers).force_blank {
-        return Reason::blank();
-    }
-    explain_column(
-        reading,
-        line,
-        references,
-        vram,
-        palette,
-        oam,
-        registers,
-        entries,
-        column as usize,
-    )
 }

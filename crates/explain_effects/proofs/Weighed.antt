@@ -7,21 +7,21 @@ use Rattle.rgb15.specs.Colour.{to_rgb24, blend_with, black}
 use Rattle.rgb15.proofs.Laws.{to_rgb24-blend_with_first}
 use Rattle.regs.specs.declared.reading.Reading.{Reading}
 use Rattle.sfx_effects.specs.Effects.{Effect, none, sprite_blend, control_blend, brighten, darken, alpha, fade, effect_color}
-use Rattle.sfx_effects.specs.Code.{WeightsOf, Weighed}
-use Rattle.sfx_effects.specs.declared.Weights.{Weights}
+use Rattle.sfx_effects.specs.Code.{WeightsOf}
+use Rattle.sfx_effects.specs.declared.weights.Weights.{Weights}
 use Rattle.explain_effects.specs.Code.{other_color, EffectWeightsOf}
 use Rattle.explain_effects.specs.Weights.{first_weight, second_weight}
 
 -- ---- the weights, of a line's
 
-module _ {reading : Reading} {registers : List ℕ} {w : Weights} (w_is : WeightsOf reading registers w) (bounds : Weighed w) where
+module _ {reading : Reading} {registers : List ℕ} {w : Weights} (w_is : WeightsOf reading registers w) where
   pub weights_blend : EffectWeightsOf reading registers control_blend (record { first = w.eva; second = w.evb })
   weights_blend =
       record {
         first_is = w_is.eva_is;
         second_is = w_is.evb_is;
-        first≤ = bounds.eva_bound;
-        second≤ = bounds.evb_bound;
+        first≤ = w.eva_bound;
+        second≤ = w.evb_bound;
       }
 
   pub weights-fade : EffectWeightsOf reading registers brighten (record { first = 16 - w.evy; second = w.evy })
@@ -30,7 +30,7 @@ module _ {reading : Reading} {registers : List ℕ} {w : Weights} (w_is : Weight
         first_is = ap (λ evy. 16 - evy) w_is.evy_is;
         second_is = w_is.evy_is;
         first≤ = omega arith;
-        second≤ = omega (arith, bounds.evy_bound);
+        second≤ = omega (arith, w.evy_bound);
       }
 
 -- ---- the colour

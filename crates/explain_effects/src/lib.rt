@@ -2,9 +2,8 @@
 
 #![tactic(auto)]
 
-ghost use Rattle.std.specs.Prelude.{◌≡◌, ◌≤◌, length};
+ghost use Rattle.std.specs.Prelude.{◌≡◌, ◌≤◌};
 ghost use Rattle.rgb15.specs.Colour.{to_rgb24};
-ghost use Rattle.memory.specs.Sizes.{registers_size};
 ghost use Rattle.regs.specs.Registers.{bldy};
 ghost use Rattle.regs.specs.Reading.{counted};
 ghost use Rattle.sfx_layers.specs.Layers.{is_object};
@@ -12,6 +11,7 @@ ghost use Rattle.sfx_effects.specs.Effects.{control_effect, effect};
 ghost use Rattle.explain_effects.specs.Weights.{effect_number};
 ghost use Rattle.explain_effects.specs.Code.{effect_of, pair_of, other_color, EffectWeightsOf, weighed_color};
 
+use memory::Registers;
 use regs::Reading;
 use regs_blend::{BlendMode, RenderLayerKind, read_bldcnt};
 use regs_window::WindowFlags;
@@ -35,12 +35,12 @@ pub struct EffectWeights {
     pub second: u16,
 }
 
-impl Effect {
-    // The number of the effect in a reason.
-    pub fn number(self) -> u32
-        ensures { result ≡ effect_number (effect_of self) }
-    {
-        match self {
+// The number of the effect in a reason.
+impl From<Effect> for u32 {
+    ghost from_gives = { λ effect number. number ≡ effect_number (effect_of effect) };
+
+    fn from(effect: Effect) -> u32 {
+        match effect {
             Effect::None => 0,
             Effect::SpriteBlend => 1,
             Effect::ControlBlend => 2,
@@ -48,17 +48,17 @@ impl Effect {
             Effect::Black => 4,
         }
     }
+}
 
+impl Effect {
     // The colour that the top is blended with; with no effect any serves, since its weight is 0.
     fn other(self, bottom: Rgb15) -> Rgb15
         ensures { result.0 ≡ other_color (effect_of self) bottom.0 }
     {
         match self {
-            Effect::None => Rgb15::BLACK,
-            Effect::SpriteBlend => bottom,
-            Effect::ControlBlend => bottom,
+            Effect::SpriteBlend | Effect::ControlBlend => bottom,
             Effect::White => Rgb15::WHITE,
-            Effect::Black => Rgb15::BLACK,
+            Effect::None | Effect::Black => Rgb15::BLACK,
         }
     }
 
@@ -76,17 +76,11 @@ impl Effect {
 fn is_object(kind: RenderLayerKind) -> bool
     ensures { result ≡ is_object kind }
 {
-    match kind {
-        RenderLayerKind::Background0 => false,
-        RenderLayerKind::Background1 => false,
-        RenderLayerKind::Background2 => false,
-        RenderLayerKind::Background3 => false,
-        RenderLayerKind::Objects => true,
-        RenderLayerKind::Backdrop => false,
-    }
+    matches!(kind, RenderLayerKind::Objects)
 }
 
 // The control's effect, by whether the bottom is a second target: its blend needs that.
+#[tactic(auto, unfolding(sfx_effects::specs::Effects::control_effect))]
 fn control_effect(mode: BlendMode, second: bool) -> Effect
     ensures { effect_of result ≡ control_effect mode second }
 {
@@ -104,13 +98,12 @@ fn control_effect(mode: BlendMode, second: bool) -> Effect
 
 // The effect on two layers, by what the region permits and whether the column's object is semi-transparent.
 pub fn column_effect(
-    registers: &[u8],
+    registers: &Registers,
     flags: WindowFlags,
     semi: bool,
     top: RenderLayerKind,
     bottom: RenderLayerKind,
 ) -> Effect
-    requires { length registers.now ≡ registers_size }
     ensures { effect_of result ≡ effect registers.now flags.0 semi (pair_of top bottom) }
 {
     let control = read_bldcnt(registers);
@@ -127,8 +120,8 @@ pub fn column_effect(
 }
 
 // The weights of an effect, as the reading counts them.
-pub fn effect_weights(registers: &[u8], reading: Reading, effect: Effect) -> EffectWeights
-    requires { (length registers.now ≡ registers_size) × (counted reading (bldy registers.now) ≤ 16) }
+pub fn effect_weights(registers: &Registers, reading: Reading, effect: Effect) -> EffectWeights
+    requires { counted reading (bldy registers.now) ≤ 16 }
     ensures { EffectWeightsOf reading registers.now (effect_of effect) result }
 {
     let weights = line_weights(registers, reading);
@@ -145,9 +138,7 @@ pub fn effect_weights(registers: &[u8], reading: Reading, effect: Effect) -> Eff
             first: 16,
             second: 0,
         },
-        Effect::SpriteBlend => blend,
-        Effect::ControlBlend => blend,
-        Effect::White => fade,
-        Effect::Black => fade,
+        Effect::SpriteBlend | Effect::ControlBlend => blend,
+        Effect::White | Effect::Black => fade,
     }
 }

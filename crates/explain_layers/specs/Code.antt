@@ -1,8 +1,11 @@
 -- As code has it: the two layers of one column, each with its kind (01, "Windows and blending", its first paragraph).
 -- No exported contract reaches this file. Assumes nothing.
-use Rattle.std.specs.Prelude.{ℕ, ◌≡◌, cond, List}
+use Rattle.std.specs.Prelude.{ℕ, ◌≡◌, cond, List, Option, Some, None}
+use Rattle.rgb15.specs.declared.Rgb15.{Rgb15}
+use Rattle.regs_window.specs.Windows.{permits}
+use Rattle.sfx_sorting.specs.declared.background.Background.{Background}
 use Rattle.sfx_layers.specs.Layers.{Layer, Pair, background}
-use Rattle.sfx_layers.specs.Code.{is_seen, permits_place}
+use Rattle.sfx_layers.specs.Code.{line_color, is_seen}
 use Rattle.explain_layers.specs.declared.Layer as code
 use Rattle.explain_layers.specs.declared.Layers.{Layers}
 
@@ -24,8 +27,10 @@ abbrev pub as_pair : Layers → Pair
 as_pair r = record { top = as_layer r.top; bottom = as_layer r.bottom }
 
 -- The background of a place over what is behind it, if it is shown: the top that it covers becomes the bottom.
-unfoldable pub put_place : List ℕ → ℕ → ℕ → ℕ → Pair → Pair
-put_place registers flags place color behind =
-    cond (is_seen (permits_place flags place) color)
-    (record { top = background registers place color; bottom = behind.top })
+unfoldable pub put_place : List ℕ → ℕ → Option Background → List Rgb15 → Pair → Pair
+put_place registers flags None colors behind = behind
+put_place registers flags (Some bg) colors behind =
+    let color = line_color colors bg.number in
+    cond (is_seen (permits flags bg.number) color)
+    (record { top = background registers bg.number color; bottom = behind.top })
     behind

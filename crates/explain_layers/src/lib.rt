@@ -2,19 +2,19 @@
 
 #![tactic(auto)]
 
-ghost use Rattle.std.specs.Prelude.{◌≡◌, cond, length, get_or};
+ghost use Rattle.std.specs.Prelude.{◌≡◌, ◌<◌, cond, get_or, None};
 ghost use Rattle.rgb15.specs.Colour.{rgb};
-ghost use Rattle.memory.specs.Sizes.{registers_size};
 ghost use Rattle.sfx_layers.specs.Layers.{backgrounds, object_layer, placed, layers};
 ghost use Rattle.sfx_layers.specs.Code.{is_seen};
 ghost use Rattle.explain_layers.specs.Code.{as_layer, as_pair, put_place, LayersOf};
 
+use memory::Registers;
 use obj_entries::Entry;
 use regs::iodev::{read_bgcnt, read_dispcnt};
 use regs_blend::RenderLayerKind;
 use regs_window::WindowFlags;
 use rgb15::Rgb15;
-use sfx_sorting::{NO_BACKGROUND, sort_backgrounds};
+use sfx_sorting::{Background, sort_backgrounds};
 
 // The Rust's RenderLayer.
 #[derive(Clone, Copy)]
@@ -31,32 +31,35 @@ pub struct Layers {
     pub bottom: Layer,
 }
 
-// The background of a place over what is behind it, if it is shown: the top that it covers becomes the bottom.
+// The background of place k over what is behind it, if it is shown: the top that it covers becomes the bottom.
+#[tactic(auto, unfolding(crate::specs::Code::put_place))]
 fn put_place(
-    registers: &[u8],
+    registers: &Registers,
     flags: WindowFlags,
-    place: usize,
+    places: [Option<Background>; 4],
+    k: usize,
     colors: [Rgb15; 4],
     behind: Layers,
 ) -> Layers
-    requires { length registers.now ≡ registers_size }
-    ensures { as_pair result
-        ≡ put_place registers.now flags.0 place (get_or colors place (rgb 0)).0 (as_pair behind) }
+    requires { k < 4 }
+    ensures { as_pair result ≡ put_place registers.now flags.0 (get_or places k None) colors (as_pair behind) }
 {
-    if place >= NO_BACKGROUND {
-        return behind;
+    match places[k] {
+        Some(bg) => {
+            let color = colors[bg.number];
+            if flags.bg_enabled(bg.number) & !color.is_transparent() {
+                let top = Layer {
+                    kind: RenderLayerKind::background(bg.number),
+                    priority: read_bgcnt(registers, bg.number).priority,
+                    color,
+                };
+                let bottom = behind.top;
+                return Layers { top, bottom };
+            }
+            behind
+        }
+        None => behind,
     }
-    let color = colors[place];
-    if flags.bg_enabled(place) & !color.is_transparent() {
-        let top = Layer {
-            kind: RenderLayerKind::background(place),
-            priority: read_bgcnt(registers, place).priority,
-            color,
-        };
-        let bottom = behind.top;
-        return Layers { top, bottom };
-    }
-    behind
 }
 
 // An object over what is behind it: on top if its priority is at most the top's, else second if at most the bottom's.
@@ -88,7 +91,7 @@ fn put_object(behind: Layers, permitted: bool, e: Entry) -> Layers
     if permitted & !color.is_transparent() {
         let object = Layer {
             kind: RenderLayerKind::Objects,
-            priority: e.priority as u16,
+            priority: u16::from(e.priority),
             color,
         };
         return place_object(behind, object);
@@ -99,20 +102,19 @@ fn put_object(behind: Layers, permitted: bool, e: Entry) -> Layers
 // The layers of a column, by what its region permits, the backdrop, the colour of each background and the column's entry.
 // Backgrounds are put from the last place to the first, so that the first two that count end on top.
 pub fn column_layers(
-    registers: &[u8],
+    registers: &Registers,
     flags: WindowFlags,
     backdrop: Rgb15,
     colors: [Rgb15; 4],
     e: Entry,
 ) -> Layers
-    requires { length registers.now ≡ registers_size }
     ensures { LayersOf
         (layers registers.now flags.0 backdrop.0
         (backgrounds registers.now (λ bg. (get_or colors bg (rgb 0)).0)) e)
         result }
 {
     let dispcnt = read_dispcnt(registers);
-    let places = sort_backgrounds(dispcnt, registers);
+    let places = sort_backgrounds(registers);
     let back = Layer {
         kind: RenderLayerKind::Backdrop,
         priority: 4,
@@ -122,9 +124,9 @@ pub fn column_layers(
         top: back,
         bottom: back,
     };
-    let fourth = put_place(registers, flags, places[3], colors, behind);
-    let third = put_place(registers, flags, places[2], colors, fourth);
-    let second = put_place(registers, flags, places[1], colors, third);
-    let first = put_place(registers, flags, places[0], colors, second);
+    let fourth = put_place(registers, flags, places, 3, colors, behind);
+    let third = put_place(registers, flags, places, 2, colors, fourth);
+    let second = put_place(registers, flags, places, 1, colors, third);
+    let first = put_place(registers, flags, places, 0, colors, second);
     put_object(first, flags.obj_enabled() & dispcnt.enable_obj, e)
 }

@@ -1,15 +1,13 @@
 -- Laws of one column: the colour that a sprite has there, and what sprites make of its entry. No contract cites this file.
 -- Assumes nothing.
-use Prim.Native.Nat.{ℕ, ◌+◌, ◌-◌, ◌≤◌, ◌<◌, min}
+use Prim.Native.Nat.{ℕ, ◌+◌, ◌-◌, ◌≤◌, ◌<◌}
 use native.Mathlib.Omega.{arith}
 use mathlib.Core.Path.{◌≡◌, refl, sym, ap, ap₂, ◌∙◌}
-use mathlib.Core.Bool.{Bool, true, false, cond, ◌||◌}
+use mathlib.Core.Bool.{Bool, true, false}
 use mathlib.Core.List.{List}
-use lib.Dec.{leb}
-use lib.IntN.{pos, sub_ℕ}
+use lib.IntN.{sub_ℕ, nat_abs}
+use Rattle.std.specs.declared.option.Option.TheVariants.{Some, None}
 use Rattle.signed.specs.Signed.{within}
-use Rattle.rgb15.specs.Colour.{is_transparent}
-use Rattle.rows.specs.Below.{between}
 use Rattle.tiles.specs.Flip.{flip}
 use Rattle.regs.specs.declared.ObjMapping.{ObjMapping}
 use Rattle.regs.specs.declared.reading.Reading.{Reading}
@@ -19,60 +17,41 @@ use Rattle.obj_sprites.specs.Tiles.{texel}
 use Rattle.obj_sprites.specs.Color.{normal_color}
 use Rattle.obj_sprites.specs.Sprite.{Source, drawn, typed_color, sprite_color}
 use Rattle.obj_sprites.specs.declared.attrs.ObjAttrs.{ObjAttrs}
-use Rattle.obj_sprites.specs.declared.attrs.ObjMode.{ObjMode}
-use Rattle.obj_sprites.proofs.Places.{across_is, across-between}
+use Rattle.obj_sprites.proofs.Places.{between-within}
 use Rattle.obj_texels.proofs.Colors.{normal_color-inside}
 use Rattle.obj_entries.specs.declared.Entry.{Entry}
-use Rattle.obj.specs.Put.{shown_by, windowed, put_pixel, sprite_step, entry_up_to}
-use Rattle.obj.proofs.Pixels.{put_pixel_shown, put_pixel-marked}
+use Rattle.obj.specs.Put.{put_pixel, sprite_step, entry_up_to}
+use Rattle.explain_obj.specs.Code.{PlaceOf}
 use Rattle.obj.proofs.Steps.{sprite_step_none, entry_up_to_none, entry_up_to_more}
 
 -- ---- the colour of a sprite
 
--- A column that a box doesn't hold is not between its ends.
-pub between_outside : (reading : Reading) (s : ObjAttrs) (l : ℕ) → left reading s ≡ sub_ℕ l 272
-    → (width column : ℕ) {inside : Bool} → column < 240
-    → inside ≡ within (sub_ℕ (column + 272) l) width → inside ≡ false
-    → between (l - 272) (min 240 (l + width - 272)) column ≡ false
-between_outside reading s l left_is width column column< inside_is out =
-    across-between reading s l left_is width column column< refl refl
-    ∙ ap (λ z. within z width) (across_is reading s l left_is column)
-    ∙ sym inside_is
-    ∙ out
+module _ (left width column : ℕ) where
+  -- A column that a box holds.
+  pub box_some : (left ≤ column + 272) × (column + 272 < left + width) → PlaceOf left width column (Some (column + 272 - left))
+  box_some bounds = record { some = λ i e. (bounds.0, bounds.1, cc); none = λ e. absurd cc }
+
+  -- One that it doesn't hold is not between its ends.
+  pub box_none : column < 240 → within (sub_ℕ (column + 272) left) width ≡ false → PlaceOf left width column None
+  box_none column< out =
+      record {
+        some = λ i e. absurd cc;
+        none = λ e. between-within left width column column< refl refl ∙ out;
+      }
 
 -- A column of a normal sprite's box, whose texel was read.
 pub normal_color-read : (reading : Reading) (mapping : ObjMapping) (vram palette : List ℕ) (s : ObjAttrs) (line l : ℕ)
     → left reading s ≡ sub_ℕ l 272
-    → (row column : ℕ) {x y color : ℕ} → below reading s line ≡ pos row
+    → (column : ℕ) {x y color : ℕ}
     → l ≤ column + 272 → column + 272 < l + s.width
     → x ≡ flip s.h_flip s.width (column + 272 - l)
-    → y ≡ flip s.v_flip s.height row
+    → y ≡ flip s.v_flip s.height (nat_abs (below reading s line))
     → color ≡ texel reading mapping vram palette s x y
     → color ≡ normal_color reading mapping vram palette s line column
-normal_color-read reading mapping vram palette s line l left_is row column {y = y} row_is h u x_is y_is color_is =
+normal_color-read reading mapping vram palette s line l left_is column {y = y} h u x_is y_is color_is =
     color_is
     ∙ ap (λ x. texel reading mapping vram palette s x y) x_is
-    ∙ normal_color-inside reading mapping vram palette s line l left_is row column row_is y_is h u
-
--- ---- a pixel on the entry
-
-module _ (color : ℕ) (e : Entry) {clear : Bool} (clear-is : clear ≡ is_transparent color) where
-  -- A visible sprite's pixel, as the tests found it.
-  pub shown_passed : (alpha : Bool) (priority : ℕ) → (leb e.priority priority || clear) ≡ true
-      → e ≡ put_pixel (cond alpha ObjMode.Sfx ObjMode.Normal) priority color e
-  shown_passed alpha priority t = cc (put_pixel_shown alpha priority color e)
-
-  pub shown_taken : (alpha : Bool) (priority : ℕ) {r : Entry} → (leb e.priority priority || clear) ≡ false
-      → r ≡ shown_by alpha priority color e
-      → r ≡ put_pixel (cond alpha ObjMode.Sfx ObjMode.Normal) priority color e
-  shown_taken alpha priority t r-is = cc (put_pixel_shown alpha priority color e)
-
-  -- A window sprite's.
-  pub marked_passed : clear ≡ true → e ≡ put_pixel ObjMode.Window 0 color e
-  marked_passed t = cc (put_pixel-marked 0 color e)
-
-  pub marked_taken : {r : Entry} → clear ≡ false → r ≡ windowed e → r ≡ put_pixel ObjMode.Window 0 color e
-  marked_taken t r-is = cc (put_pixel-marked 0 color e)
+    ∙ normal_color-inside reading mapping vram palette s line l left_is column y_is h u
 
 -- ---- the sprites in turn
 

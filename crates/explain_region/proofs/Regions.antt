@@ -2,28 +2,15 @@
 -- Assumes nothing.
 use Prim.Native.Nat.{ℕ}
 use mathlib.Core.Path.{◌≡◌, sym, ◌∙◌}
-use mathlib.Core.Bool.{Bool, true, false, cond, not, ◌&&◌}
+use mathlib.Core.Bool.{Bool, true, false, cond, ◌&&◌}
 use mathlib.Core.List.{List}
-use borrow.Author.Tests.{not-true, not-false}
 use Rattle.regs.specs.Registers.{dispcnt}
 use Rattle.regs.specs.Display.{DisplayControlOf, is_using_windows}
 use Rattle.regs.specs.declared.DisplayControl.{DisplayControl}
 use Rattle.regs.specs.declared.reading.Reading.{Reading}
-use Rattle.regs_window.specs.Windows.{window_top, window_bottom, WindowOf, in_columns, in_rows}
-use Rattle.regs_window.specs.declared.Window.{Window}
 use Rattle.sfx_regions.specs.Region.{region, uses_windows, in_window0, in_window1}
 use Rattle.sfx_regions.specs.declared.WindowType.TheVariants.{Win0, Win1, WinObj, WinOut, WinNone}
 use Rattle.sfx_regions.proofs.Regions.{uses_windows_is}
-
--- Whether a window claims a column, by its registers: its rows, and the columns between two edges.
-pub claims_window : (column line : ℕ) {on enable t : Bool} {h v flags left right l r : ℕ} {rows : Window}
-    → on ≡ enable
-    → WindowOf h v flags rows
-    → (l ≡ left) × (r ≡ right)
-    → t ≡ (on && in_rows rows.top rows.bottom line) && in_columns l r column
-    → t ≡ (enable && in_rows (window_top v) (window_bottom v) line) && in_columns left right column
-claims_window column line on-is rows_are edges_are t-is =
-    rw (on-is, rows_are.top_is, rows_are.bottom_is, edges_are.0, edges_are.1) at t-is
 
 -- ---- the region
 
@@ -31,13 +18,13 @@ module _ (reading : Reading) (registers : List ℕ) (mark : Bool) (column line :
     (display : DisplayControlOf (dispcnt registers) d)
     (any-is : any ≡ is_using_windows d.enable_window0 d.enable_window1 d.enable_obj_window) where
   -- With no window on.
-  pub region_none : not any ≡ true → WinNone ≡ region reading registers mark column line
+  pub region_none : any ≡ false → WinNone ≡ region reading registers mark column line
   unfolding region
-  region_none off = rw (uses_windows_is registers display any-is ∙ not-true any off)
+  region_none off = rw (uses_windows_is registers display any-is ∙ off)
 
-  module _ {in0 : Bool} (on : not any ≡ false) (in0-is : in0 ≡ in_window0 registers column line) where
+  module _ {in0 : Bool} (on : any ≡ true) (in0-is : in0 ≡ in_window0 registers column line) where
     uses : uses_windows registers ≡ true
-    uses = uses_windows_is registers display any-is ∙ not-false any on
+    uses = uses_windows_is registers display any-is ∙ on
 
     pub region_win0 : in0 ≡ true → Win0 ≡ region reading registers mark column line
     unfolding region

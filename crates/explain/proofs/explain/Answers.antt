@@ -1,20 +1,10 @@
--- explain::explain meets its contract: a law for each return.
+-- explain::explain meets its contract: what is found is answered.
 -- Assumes nothing.
-use borrow.Author.Rules.{rules}
-use Rattle.explain.proofs.Numbers.{explains-refused, registers_passed, explains-blank, explainable, explains_column}
+use Rattle.explain.proofs.Numbers.{explains_reason, explains_refused}
 use Rattle.explain.proofs.explain.Goals as goal
 
-pub returns-then-number-ne0 : goal.returns-then-number-ne0
-returns-then-number-ne0 c = search (rules, explains-refused)
+pub returns-in-Ok : goal.returns-in-Ok
+returns-in-Ok c = explains_reason _ _ _ c.find_reason.ensures c.in-Ok.is
 
-pub read_dispcnt-requires : goal.read_dispcnt-requires
-read_dispcnt-requires c = registers_passed _ _ _ c.judge_column-number.ensures c.if-number-ne0.false
-
-pub returns-then-read_dispcnt : goal.returns-then-read_dispcnt
-returns-then-read_dispcnt c = search (rules, explains-blank)
-
-pub explain_column-requires : goal.explain_column-requires
-explain_column-requires c = search (rules, explainable)
-
-pub returns : goal.returns
-returns c = search (rules, explains_column)
+pub returns-in-Err : goal.returns-in-Err
+returns-in-Err c = explains_refused _ _ _ c.find_reason.ensures c.in-Err.is c.refused.ensures

@@ -6,7 +6,7 @@ use Rattle.explain_layers.proofs.column_layers.Goals as goal
 
 pub returns : goal.returns
 returns c =
-    layers_of-steps _ _ _ _ c.sort_backgrounds-places.ensures _
+    layers_of-steps _ _ _ _ _ c.sort_backgrounds-places.ensures _
     refl
     c.put_place-fourth.ensures
     c.put_place-third.ensures

@@ -1,40 +1,27 @@
 -- explain_obj::affine_obj_color meets its contract: a column of the box has its point's colour, and no other has a pixel.
 -- Assumes nothing.
-use Prim.Native.Nat.{◌+◌, ◌≤◌, ◌<◌}
 use native.Mathlib.Omega.{arith}
-use mathlib.Core.Path.{refl, sym, ◌∙◌}
-use borrow.Author.Rules.{rules}
-use Rattle.obj_sprites.proofs.Places.{within_bounds}
+use mathlib.Core.Path.{refl, sym, ap, ◌∙◌}
+use Prim.Native.Nat.{◌+◌, ◌-◌, min}
+use Rattle.obj_texels.specs.Code.{box_point_color}
 use Rattle.obj_texels.proofs.Colors.{affine_obj_color-inside, affine_obj_color_outside}
-use Rattle.explain_obj.proofs.Columns.{between_outside}
 use Rattle.explain_obj.proofs.affine_obj_color.Goals as goal
 
--- The column lies in the box, here and below.
-pub overflow_sub-i : goal.overflow_sub-i
-overflow_sub-i c =
-    let bounds : (c.left-left.result ≤ c.args.view.column + 272) × (c.args.view.column + 272 < c.left-left.result + c.box_width.result)
-    = within_bounds _ _ _ (sym c.is_inside.ensures ∙ c.if-is_inside.true) in
-    bounds.0
-
 pub point_color-requires : goal.point_color-requires
-point_color-requires c =
-    let bounds : (c.left-left.result ≤ c.args.view.column + 272) × (c.args.view.column + 272 < c.left-left.result + c.box_width.result)
-    = within_bounds _ _ _ (sym c.is_inside.ensures ∙ c.if-is_inside.true) in
-    search rules
+point_color-requires c = omega (arith, c.box_column.ensures.some _ c.in-Some.is, c.box_width.ensures)
 
-pub returns-then-is_inside : goal.returns-then-is_inside
-returns-then-is_inside c =
-    let left = c.left-left in
-    let width = c.box_width in
-    let bounds : (c.left-left.result ≤ c.args.view.column + 272) × (c.args.view.column + 272 < c.left-left.result + c.box_width.result)
-    = within_bounds _ _ _ (sym c.is_inside.ensures ∙ c.if-is_inside.true) in
+pub returns-in-Some : goal.returns-in-Some
+returns-in-Some c =
+    let place = c.box_column.ensures.some _ c.in-Some.is in
+    let s = c.args.sprite.now in
+    let m = c.args.memory.now in
     c.point_color.ensures
-    ∙ affine_obj_color-inside _ _ _ _ _ _ _ left.ensures.0 _ _ c.turn_line-turn.ensures _ (omega arith) bounds.0 (omega arith)
+    ∙ ap (box_point_color s.view.reading s.view.mapping m.vram m.palette s.attrs c.turn_line.result) place.2
+    ∙ affine_obj_color-inside _ _ _ _ _ _ _ c.left.ensures.0 _ _ c.turn_line.ensures _ (omega (arith, c.box_width.ensures))
+    place.0 (omega (arith, place.1, c.box_width.ensures))
 
-pub returns-else-is_inside : goal.returns-else-is_inside
-returns-else-is_inside c =
-    let left = c.left-left in
-    let column< = c.requires.column< in
+pub returns-in-None : goal.returns-in-None
+returns-in-None c =
     sym
-    (affine_obj_color_outside _ _ _ _ _ _ left.result left.ensures.0 _ refl (omega arith) _ column<
-    (between_outside _ _ _ left.ensures.0 _ _ column< c.is_inside.ensures c.if-is_inside.false))
+    (affine_obj_color_outside _ _ _ _ _ _ _ c.left.ensures.0 _ refl
+    (ap (λ w. min 240 (c.left.result + w - 272)) c.box_width.ensures.0) _ c.requires.1 (c.box_column.ensures.none c.in-None.is))

@@ -1,39 +1,34 @@
 -- explain_obj::normal_color meets its contract: a column of the box has a texel, and no other has a pixel.
 -- Assumes nothing.
-use Prim.Native.Nat.{◌+◌, ◌≤◌, ◌<◌}
+use Prim.Native.Nat.{◌+◌, ◌-◌, min}
 use native.Mathlib.Omega.{arith}
-use mathlib.Core.Path.{refl, sym, ◌∙◌}
-use borrow.Author.Rules.{rules}
-use Rattle.obj_sprites.proofs.Places.{within_bounds, boxed_normal}
+use mathlib.Core.Path.{refl, sym, ap, ◌∙◌}
+use Rattle.tiles.specs.Flip.{flip}
+use Rattle.obj_sprites.specs.declared.attrs.ObjAttrs.{ObjAttrs}
 use Rattle.obj_texels.proofs.Colors.{normal_color_outside}
-use Rattle.explain_obj.proofs.Columns.{between_outside, normal_color-read}
+use Rattle.explain_obj.proofs.Columns.{normal_color-read}
 use Rattle.explain_obj.proofs.normal_color.Goals as goal
 
--- The column lies in the box, here and below.
-pub overflow_sub-at : goal.overflow_sub-at
-overflow_sub-at c =
-    let bounds : (c.left-left.result ≤ c.args.view.column + 272) × (c.args.view.column + 272 < c.left-left.result + c.args.attrs.width)
-    = within_bounds _ _ _ (sym c.is_inside.ensures ∙ c.if-is_inside.true) in
-    bounds.0
+pub flip-requires : goal.flip-requires
+flip-requires c = omega (arith, c.box_column.ensures.some _ c.in-Some.is)
 
-pub flip-sprite_x-requires : goal.flip-sprite_x-requires
-flip-sprite_x-requires c =
-    let bounds : (c.left-left.result ≤ c.args.view.column + 272) × (c.args.view.column + 272 < c.left-left.result + c.args.attrs.width)
-    = within_bounds _ _ _ (sym c.is_inside.ensures ∙ c.if-is_inside.true) in
-    omega arith
+pub texel-requires : goal.texel-requires
+texel-requires c =
+    (omega (arith, c.flip.ensures.1, ap (λ (s : ObjAttrs). s.width) c.attrs.view_is), c.shown_row.ensures.1)
 
-pub flip-sprite_y-requires : goal.flip-sprite_y-requires
-flip-sprite_y-requires c = omega (arith, boxed_normal c.args.attrs.height c.requires.type_is)
+pub returns-in-Some : goal.returns-in-Some
+returns-in-Some c =
+    let place = c.box_column.ensures.some _ c.in-Some.is in
+    let width_is = ap (λ (s : ObjAttrs). s.width) c.attrs.view_is in
+    normal_color-read _ _ _ _ _ _ _ c.left.ensures.0 _ place.0 (omega (arith, place.1, width_is))
+    (c.flip.ensures.0
+    ∙ ap (flip c.attrs.inside.h_flip c.attrs.inside.width) place.2
+    ∙ ap (λ (s : ObjAttrs). flip s.h_flip s.width (c.args.column + 272 - c.left.result)) c.attrs.view_is)
+    c.shown_row.ensures.0 c.texel.ensures
 
-pub returns-then-is_inside : goal.returns-then-is_inside
-returns-then-is_inside c =
-    let bounds : (c.left-left.result ≤ c.args.view.column + 272) × (c.args.view.column + 272 < c.left-left.result + c.args.attrs.width)
-    = within_bounds _ _ _ (sym c.is_inside.ensures ∙ c.if-is_inside.true) in
-    search (rules, normal_color-read)
-
-pub returns-else-is_inside : goal.returns-else-is_inside
-returns-else-is_inside c =
-    let left = c.left-left in
+pub returns-in-None : goal.returns-in-None
+returns-in-None c =
     sym
-    (normal_color_outside _ _ _ _ _ _ left.result left.ensures.0 refl refl _ c.requires.column<
-    (between_outside _ _ _ left.ensures.0 _ _ c.requires.column< c.is_inside.ensures c.if-is_inside.false))
+    (normal_color_outside _ _ _ _ _ _ _ c.left.ensures.0 refl
+    (ap (λ (s : ObjAttrs). min 240 (c.left.result + s.width - 272)) c.attrs.view_is) _ c.requires.2
+    (c.box_column.ensures.none c.in-None.is))
