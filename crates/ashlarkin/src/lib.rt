@@ -19,6 +19,7 @@ use explain::Reason;
 use gpu_bus::Byte;
 use gpu_records::{BgAffine, ObjBufferEntry};
 use gpu_step::Steps;
+use refusals::number;
 
 // A line drawn: 0, or the number of the refusal, which changes nothing lent.
 pub fn ashlarkin_draw(
@@ -40,7 +41,7 @@ pub fn ashlarkin_draw(
         vram.now palette.now oam.now registers.now)
         entries.old output.old result entries.new output.new }
 {
-    gpu::draw(
+    number(gpu::draw(
         reading,
         line,
         References { x2, y2, x3, y3 },
@@ -50,31 +51,28 @@ pub fn ashlarkin_draw(
         registers,
         entries,
         output,
-    )
+    ))
 }
 
 // A row of entries reset: 0, or 2 for another length.
 pub fn ashlarkin_reset(entries: &mut [u8]) -> u32
     ensures { Resets entries.old result entries.new }
 {
-    obj_entries::reset(entries)
+    number(obj_entries::reset(entries))
 }
 
 // The four reference numbers stepped at a line's end: 0, or 2 for another length, or 6.
 pub fn ashlarkin_step(pb2: i16, pd2: i16, pb3: i16, pd3: i16, references: &mut [u8]) -> u32
     ensures { StepsTo (record { pb2 = pb2; pd2 = pd2; pb3 = pb3; pd3 = pd3 }) references.old result references.new }
 {
-    gpu_step::step(Steps { pb2, pd2, pb3, pd3 }, references)
+    number(gpu_step::step(Steps { pb2, pd2, pb3, pd3 }, references))
 }
 
 // Both backgrounds stepped at a line's end, each in place: 0, or 6 with both as they were.
 pub fn ashlarkin_step_records(bg2: &mut BgAffine, bg3: &mut BgAffine) -> u32
     ensures { StepsRecords bg2.old bg3.old result bg2.new bg3.new }
 {
-    let stepped = gpu_records::step_pair(*bg2, *bg3);
-    *bg2 = stepped.bg2;
-    *bg3 = stepped.bg3;
-    stepped.number
+    number(gpu_records::step_pair(bg2, bg3))
 }
 
 // A line drawn over a row of 240 records, with the byte form's answers; the row is written only where the line is drawn.
@@ -97,19 +95,17 @@ pub fn ashlarkin_draw_records(
         vram.now palette.now oam.now registers.now)
         entries.old output.old result entries.new output.new }
 {
-    let refusal = gpu_draw_records::judge_row(reading, entries.len());
-    if refusal != 0 {
-        return refusal;
-    }
-    let row = gpu_records::load_row(entries);
-    let drawn = gpu_draw_records::draw_row(
-        row, reading, line, x2, y2, x3, y3, vram, palette, oam, registers, output,
-    );
-    if !drawn.writes {
-        return drawn.number;
-    }
-    gpu_records::store_row(entries, drawn.row);
-    drawn.number
+    number(gpu_draw_records::draw_records(
+        reading,
+        line,
+        References { x2, y2, x3, y3 },
+        vram,
+        palette,
+        oam,
+        registers,
+        entries,
+        output,
+    ))
 }
 
 // Why a column of a line has its colour, by the entries as they stand after the draw; its number is 0 or the refusal's.
@@ -149,7 +145,7 @@ pub fn ashlarkin_explain(
 pub fn ashlarkin_read8(address: u32, vram: &[u8], palette: &[u8], oam: &[u8]) -> Byte
     ensures { Reads address (memories_of vram.now palette.now oam.now) result }
 {
-    gpu_bus::read_8(address, vram, palette, oam)
+    Byte::from(gpu_bus::read_8(address, vram, palette, oam))
 }
 
 // A byte stored to pages 5 to 7, by the mode in the registers: 0, written or not, or 2 or 9.
@@ -166,7 +162,7 @@ pub fn ashlarkin_store8(
         result
         (memories_of vram.new palette.new oam.new) }
 {
-    gpu_bus::write_8(address, value, registers, vram, palette, oam)
+    number(gpu_bus::write_8(address, value, registers, vram, palette, oam))
 }
 
 // A halfword stored to pages 5 to 7: 0, or 2, 9 or 11.
@@ -182,5 +178,5 @@ pub fn ashlarkin_store16(
         result
         (memories_of vram.new palette.new oam.new) }
 {
-    gpu_bus::write_16(address, value, vram, palette, oam)
+    number(gpu_bus::write_16(address, value, vram, palette, oam))
 }

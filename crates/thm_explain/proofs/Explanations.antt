@@ -59,7 +59,7 @@ module _ (c : Call) (entries : List ℕ) (column : ℕ) {r : Reason} (r-is : Exp
         go true on = blank on (reason_blank c entries column r-is zero_is on)
         go false off =
             let both = reason_accepted c entries column r-is zero_is in
-            let ready = ready-after c entries whole_output ((passed c entries both.0).1 off) refl in
+            let ready = ready-after c entries whole_output ((passed c entries both.0).1 off) in
             shown off (rw (reason_case off) (reason_fits (column_of c entries column) ready.shaped both.1))
 
 -- An explanation is accepted as a draw is, its reason alone fits, and the colour by it is the drawn one.

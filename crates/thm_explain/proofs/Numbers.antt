@@ -1,4 +1,5 @@
 -- What is drawn beside an explanation, and what an accepted one has. No contract cites this file. Assumes nothing.
+use Rattle.refusals.specs.Refusal.{outcome_number}
 use Prim.Native.Nat.{ℕ, ◌<◌}
 use mathlib.Core.Path.{◌≡◌, sym, ap, ◌∙◌}
 use mathlib.Core.Bool.{cond}
@@ -9,7 +10,7 @@ use Rattle.rows.specs.Words.{word_cells}
 use Rattle.rows.proofs.Cells.{cell_at_row_of}
 use Rattle.rows.proofs.Tab.{length-tab}
 use Rattle.memory.specs.Sizes.{output_size}
-use Rattle.gpu_judge.specs.Judge.{Call, have_lengths, verdict, number_of}
+use Rattle.gpu_judge.specs.Judge.{Call, have_lengths, verdict}
 use Rattle.gpu.specs.Line.{entries_after, pixel_at, line_after}
 use Rattle.gpu.specs.Draw.{Drawing, given, draw, Draws}
 use Rattle.explain.specs.Explain.{whole_output, Explains}
@@ -24,7 +25,7 @@ module _ (c : Call) (entries : List ℕ) where
   drawn_at column = cond (is_blank c) 0xf8f8f8 (pixel_at c (entries_after c entries) column)
 
   module _ (output : List ℕ) where
-    draw_at : (column : ℕ) → column < 240 → number_of (verdict c entries output) ≡ 0
+    draw_at : (column : ℕ) → column < 240 → outcome_number (verdict c entries output) ≡ 0
         → cell_at word_cells (draw c entries output).output column ≡ drawn_at column
     unfolding draw given line_after
     draw_at column column< =
@@ -39,22 +40,22 @@ module _ (c : Call) (entries : List ℕ) where
       verdict_whole = rw (size, length-tab {A = ℕ} (λ _. 0) output_size)
 
       module _ {number : ℕ} {entriesLeft outputLeft : List ℕ} (d : Draws c entries output number entriesLeft outputLeft) where
-        pub draws-number : number ≡ number_of (verdict c entries whole_output)
+        pub draws-number : number ≡ outcome_number (verdict c entries whole_output)
         draws-number =
             ap (λ (drawn : Drawing). drawn.number) d
             ∙ draw-number c entries output
-            ∙ ap number_of verdict_whole
+            ∙ ap outcome_number verdict_whole
 
-        pub draws_at : (column : ℕ) → column < 240 → number_of (verdict c entries whole_output) ≡ 0
+        pub draws_at : (column : ℕ) → column < 240 → outcome_number (verdict c entries whole_output) ≡ 0
             → cell_at word_cells outputLeft column ≡ drawn_at column
         draws_at column column< zero_is =
             ap (λ (drawn : Drawing). cell_at word_cells drawn.output column) d
-            ∙ draw_at column column< (ap number_of verdict_whole ∙ zero_is)
+            ∙ draw_at column column< (ap outcome_number verdict_whole ∙ zero_is)
 
 -- ---- what is explained
 
 -- Neither a refusal nor a column outside.
 pub reason_accepted : (c : Call) (entries : List ℕ) (column : ℕ) {r : Reason} → Explains c entries column r → r.number ≡ 0
-    → (number_of (verdict c entries whole_output) ≡ 0) × (column < 240)
+    → (outcome_number (verdict c entries whole_output) ≡ 0) × (column < 240)
 reason_accepted c entries column r-is zero_is =
     (number-zero c entries column).0 (sym (reason-number c entries column r-is) ∙ zero_is)

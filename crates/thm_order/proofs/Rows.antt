@@ -1,4 +1,5 @@
 -- Laws of what one draw, and draws one after another, make of a row. No contract cites this file. Assumes nothing.
+use Rattle.refusals.specs.Refusal.{refusal_number, outcome_number}
 use Prim.Native.Nat.{ℕ}
 use native.Mathlib.Omega.{arith}
 use mathlib.Core.Path.{◌≡◌, refl, sym, ap, ◌∙◌}
@@ -16,7 +17,6 @@ use Rattle.obj_sprites.specs.Sprite.{source}
 use Rattle.obj_entries.specs.Entry.{entry_cells, shaped_row}
 use Rattle.obj.specs.Put.{put_sprites}
 use Rattle.obj.proofs.Shapes.{shaped_row-after}
-use Rattle.gpu_judge.specs.Judge.{number_of}
 use Rattle.gpu.specs.Line.{entries_after}
 use Rattle.gpu.specs.Draw.{given, draw}
 use Rattle.thm_order.specs.Draws.{Attempt, row_left, number_given, row_after, puts_pixels}
@@ -32,7 +32,7 @@ module _ (a : Attempt) (row : List ℕ) where
 
   -- A draw that puts pixels leaves what its sprites make of the row, and any other the row as it is.
   pub row_left_is : row_left a row ≡ cond (puts_pixels a row) (sprite_row a row) row
-  unfolding puts_pixels draw given number_of entries_after
+  unfolding puts_pixels draw given outcome_number refusal_number entries_after
   row_left_is =
       verdict_cases a.call row a.output
       (λ v.
@@ -66,7 +66,7 @@ module _ (a : Attempt) (row : List ℕ) where
 
   -- A draw on a row of well-shaped entries isn't refused for one.
   pub number_shaped : shaped_row row ≡ true → number_given a row ≢ 7
-  unfolding draw given number_of
+  unfolding draw given outcome_number refusal_number
   number_shaped shaped =
       verdict_cases a.call row a.output (λ v. (given v a.call row a.output).number ≢ 7)
       (λ e. omega arith) (λ e. omega arith) (λ e. omega arith) (λ _ _ e. omega arith)

@@ -1,5 +1,6 @@
 -- A row of records drawn on any number of times holds what the row of bytes holds. No contract cites this file.
 -- Assumes nothing.
+use Rattle.refusals.specs.Refusal.{refusal_number, outcome_number}
 use Prim.Native.Nat.{ℕ, zero, suc, ◌+◌, ◌≤◌, ◌<◌, min}
 use native.Mathlib.Omega.{arith}
 use mathlib.Core.Path.{◌≡◌, refl, sym, ap, ◌∙◌}
@@ -21,7 +22,7 @@ use Rattle.obj_entries.specs.declared.Entry.{Entry}
 use Rattle.bits.proofs.Booleans.{or_split}
 use Rattle.obj_entries.proofs.Shapes.{shaped_row-reset}
 use Rattle.obj.proofs.Shapes.{shaped_row-after}
-use Rattle.gpu_judge.specs.Judge.{Call, number_of}
+use Rattle.gpu_judge.specs.Judge.{Call}
 use Rattle.gpu.specs.Draw.{given, draw}
 use Rattle.thm_order.specs.Draws.{Attempt, row_left, row_after, puts_pixels}
 use Rattle.thm_order.proofs.Rows.{sprite_row, row_left_is}
@@ -113,7 +114,7 @@ kept-draw a row kept = rw (row_left_is a row) (go (puts_pixels a row))
 records-left : (c : Call) (row output : List ℕ)
     → cond (writes (draw c row output).number c.memory.registers) (records_in (draw c row output).entries) (records_in row)
     ≡ records_in (draw c row output).entries
-unfolding draw given number_of writes
+unfolding draw given outcome_number refusal_number writes
 records-left c row output =
     verdict_cases c row output
     (λ v.

@@ -8,7 +8,7 @@ use Rattle.regs.specs.Registers.{dispcnt}
 use Rattle.regs.specs.Display.{force_blank}
 use Rattle.rows.specs.Answer.{Answer}
 use Rattle.gpu.specs.Draw.{Drawing}
-use Rattle.gpu_records.specs.declared.affine.PairStep.{PairStep}
+use Rattle.gpu_records.specs.Step.{PairStep}
 use Rattle.gpu_draw_records.specs.Draw.{RecordDrawing}
 use Rattle.explain.proofs.Numbers.{reason-refused}
 use Rattle.gpu_bus.specs.Read.{refused_byte}

@@ -1,4 +1,5 @@
 -- What the draws give is what their tables give. No contract cites this file. Assumes nothing.
+use Rattle.refusals.specs.Refusal.{refusal_number, outcome_number}
 use Prim.Native.Nat.{ℕ}
 use native.Mathlib.Omega.{arith}
 use mathlib.Core.Path.{◌≡◌, refl, sym, ap, ◌∙◌}
@@ -9,8 +10,10 @@ use lib.Dec.{leb, ltb}
 use Rattle.memory.specs.Sizes.{display_height}
 use Rattle.regs.specs.Registers.{dispcnt}
 use Rattle.regs.specs.Display.{force_blank}
-use Rattle.gpu_judge.specs.Judge.{Call, blank_off, have_lengths, verdict, number_of}
-use Rattle.gpu_judge.specs.declared.Verdict.TheVariants.{
+use Rattle.gpu_judge.specs.Judge.{Call, blank_off, have_lengths, verdict}
+use Rattle.std.specs.declared.result.Result.TheVariants.{Ok, Err}
+use Rattle.gpu_judge.specs.declared.Picture.TheVariants.{Blank, Drawn}
+use Rattle.refusals.specs.declared.Refusal.TheVariants.{
   BadReading,
   BadLength,
   BadLine,
@@ -18,8 +21,6 @@ use Rattle.gpu_judge.specs.declared.Verdict.TheVariants.{
   BadBldy,
   BadReference,
   BadEntry,
-  Blank,
-  Accepted,
 }
 use Rattle.gpu_judge.proofs.Verdicts.{verdict_cases}
 use Rattle.gpu.specs.Line.{blank_line}
@@ -32,11 +33,11 @@ module _ (c : Call) (entries output : List ℕ) where
   -- The verdicts of a staircase have the numbers of their rows.
   number_staircase : (reading length line mode bldy reference entry shown : Bool)
       → (given
-      (cond reading BadReading (cond length BadLength (cond line BadLine (cond mode BadMode
-      (cond bldy BadBldy (cond reference BadReference (cond entry BadEntry (cond shown Accepted Blank))))))))
+      (cond reading (Err BadReading) (cond length (Err BadLength) (cond line (Err BadLine) (cond mode (Err BadMode)
+      (cond bldy (Err BadBldy) (cond reference (Err BadReference) (cond entry (Err BadEntry) (cond shown (Ok Drawn) (Ok Blank)))))))))
       c entries output).number
       ≡ cond reading 1 (cond length 2 (cond line 3 (cond mode 4 (cond bldy 5 (cond reference 6 (cond entry 7 0))))))
-  unfolding given number_of
+  unfolding given outcome_number refusal_number
   number_staircase true l i m y r e s = refl
   number_staircase false true i m y r e s = refl
   number_staircase false false true m y r e s = refl
@@ -57,7 +58,7 @@ module _ (c : Call) (entries output : List ℕ) where
   -- A draw whose number isn't 0 leaves the entries and the output.
   pub draw-refused : (draw c entries output).number ≢ 0
       → ((draw c entries output).entries ≡ entries) × ((draw c entries output).output ≡ output)
-  unfolding draw given number_of
+  unfolding draw given outcome_number refusal_number
   draw-refused =
       verdict_cases c entries output
       (λ v.
@@ -77,15 +78,15 @@ module _ (c : Call) (entries output : List ℕ) where
 
     -- Forced blank is stopped by the first three tests only.
     verdict-blank : verdict c entries output
-        ≡ cond (ltb 1 c.reading) BadReading
-        (cond (not (have_lengths c.memory entries output)) BadLength (cond (leb display_height c.line) BadLine Blank))
+        ≡ cond (ltb 1 c.reading) (Err BadReading)
+        (cond (not (have_lengths c.memory entries output)) (Err BadLength) (cond (leb display_height c.line) (Err BadLine) (Ok Blank)))
     unfolding verdict
     verdict-blank = rw on
 
     pub draw-blank : NoneOf 3 (bytes_table c entries output)
         → ((draw c entries output).number ≡ 0) × ((draw c entries output).output ≡ blank_line)
-    unfolding draw given number_of
+    unfolding draw given outcome_number refusal_number
     draw-blank none =
-        let blank : verdict c entries output ≡ Blank =
+        let blank : verdict c entries output ≡ Ok Blank =
         verdict-blank ∙ rw (none 0 (omega arith), none 1 (omega arith), none 2 (omega arith)) in
         (ap (λ v. (given v c entries output).number) blank, ap (λ v. (given v c entries output).output) blank)

@@ -1,4 +1,5 @@
 -- What an explanation gives is what its table gives. No contract cites this file. Assumes nothing.
+use Rattle.refusals.specs.Refusal.{outcome_number}
 use Prim.Native.Nat.{ℕ, ◌<◌}
 use native.Mathlib.Omega.{arith}
 use mathlib.Core.Path.{◌≡◌, refl, sym, ap, ◌∙◌}
@@ -11,7 +12,7 @@ use Rattle.memory.specs.Sizes.{display_width, output_size}
 use Rattle.regs.specs.Registers.{dispcnt}
 use Rattle.regs.specs.Display.{force_blank}
 use Rattle.obj_entries.specs.Entry.{shaped_row}
-use Rattle.gpu_judge.specs.Judge.{Call, have_lengths, verdict, number_of}
+use Rattle.gpu_judge.specs.Judge.{Call, have_lengths, verdict}
 use Rattle.explain.specs.Reason.{blank_reason}
 use Rattle.explain.specs.Explain.{whole_output, explain_number, Explains}
 use Rattle.explain.specs.declared.Reason.{Reason}
@@ -31,7 +32,7 @@ module _ (c : Call) (entries : List ℕ) where
   unfolding have_lengths lent_lengths
   lengths_whole = rw (length-tab {A = ℕ} (λ _. 0) output_size) (and-true _)
 
-  number_whole : number_of (verdict c entries whole_output) ≡ first_of lent_table
+  number_whole : outcome_number (verdict c entries whole_output) ≡ first_of lent_table
   number_whole =
       sym (draw-number c entries whole_output)
       ∙ number-draw c entries whole_output

@@ -11,7 +11,8 @@ use Rattle.bg_points.specs.declared.references.References.{References}
 use Rattle.rows.specs.Answer.{Answer}
 use Rattle.gpu_step.specs.declared.Steps.{Steps}
 use Rattle.gpu_step.specs.Step.{sums, stepped, step_number, references_after, references_size, references_in, bytes_after, step}
-use Rattle.gpu_step.specs.declared.Stepped.{Stepped}
+use Rattle.std.specs.declared.option.Option.{Option}
+use Rattle.std.specs.declared.option.Option.TheVariants.{None, Some}
 use Rattle.obj_entries.specs.Entry.{entries_size, reset_row}
 use Rattle.obj_entries.specs.Reset.{reset}
 use Rattle.gpu_records.specs.Step.{steps_of, references_of, moved_to, step_records}
@@ -42,7 +43,7 @@ step_fits s bytes =
     go to (eqb (length bytes) references_size) (in_ranges four) (in_ranges to)
   where
     go : (to : References) (sized before after : Bool)
-        → let answer = cond (before && after) (Stepped.To to) Stepped.Refused in
+        → let answer = cond (before && after) (Some to) None in
         Fits (row 2 (not sized) ∷ row 6 (not before || not after) ∷ []) bytes
         (cond (not sized) (record { number = 2; bytes = bytes })
         (record { number = step_number answer; bytes = bytes_after answer bytes }))
@@ -53,7 +54,7 @@ step_fits s bytes =
 
 module _ (bg2 bg3 : BgAffine) where
   -- The same of the records, for each answer of the step on numbers.
-  abbrev FitsPair : List Row → Stepped → Type 0
+  abbrev FitsPair : List Row → Option References → Type 0
   FitsPair table answer =
       let to = references_after answer (references_of bg2 bg3) in
       (step_number answer ≡ first_of table)
@@ -68,7 +69,7 @@ module _ (bg2 bg3 : BgAffine) where
       go to (in_ranges four) (in_ranges to)
     where
       go : (to : References) (before after : Bool)
-          → FitsPair (row 6 (not before || not after) ∷ []) (cond (before && after) (Stepped.To to) Stepped.Refused)
+          → FitsPair (row 6 (not before || not after) ∷ []) (cond (before && after) (Some to) None)
       go to false after = (refl, λ _. (refl, refl))
       go to true false = (refl, λ _. (refl, refl))
       go to true true = (refl, λ n. absurd (n refl))

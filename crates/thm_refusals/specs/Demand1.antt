@@ -14,7 +14,8 @@ use Rattle.gpu_step.specs.declared.Steps.{Steps}
 use Rattle.gpu_step.specs.Step.{sums, references_size, references_in, StepsTo}
 use Rattle.obj_entries.specs.Entry.{entries_size, well_shaped, shaped_row}
 use Rattle.obj_entries.specs.Reset.{Resets}
-use Rattle.gpu_judge.specs.Judge.{Call, blank_off, memory_lengths, have_lengths}
+use Rattle.gpu_judge.specs.Judge.{Call, blank_off, have_lengths}
+use Rattle.memory.specs.Memory.{memory_lengths}
 use Rattle.gpu.specs.Line.{blank_line}
 use Rattle.gpu.specs.Draw.{Draws}
 use Rattle.gpu_records.specs.Step.{steps_of, references_of, StepsRecords}

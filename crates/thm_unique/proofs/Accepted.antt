@@ -20,7 +20,8 @@ use Rattle.bg_points.specs.References.{in_ranges}
 use Rattle.gpu_judge.specs.Judge.{Call, have_lengths, verdict}
 use Rattle.gpu.specs.Line.{entries_after, line_after}
 use Rattle.gpu.specs.Draw.{Draws}
-use Rattle.gpu_judge.specs.declared.Verdict.TheVariants.{Accepted}
+use Rattle.std.specs.declared.result.Result.TheVariants.{Ok}
+use Rattle.gpu_judge.specs.declared.Picture.TheVariants.{Drawn}
 use Rattle.gpu.proofs.Given.{draws_accepted}
 use Rattle.thm_unique.specs.Inputs.{first_line, dark, lit, covered, lent}
 use Rattle.thm_unique.proofs.Once.{draw_once}
@@ -35,10 +36,10 @@ half-tab f size at at< = rw (get_or-tab f size at 0 (omega arith), get_or-tab f 
 
 -- All that satisfies the contract of an accepted draw.
 pub given_accepted : (c : Call) (entries output : List ℕ) {n : ℕ} {entriesLeft outputLeft : List ℕ}
-    → verdict c entries output ≡ Accepted → Draws c entries output n entriesLeft outputLeft
+    → verdict c entries output ≡ Ok Drawn → Draws c entries output n entriesLeft outputLeft
     → (n ≡ 0) × (entriesLeft ≡ entries_after c entries) × (outputLeft ≡ line_after c (entries_after c entries))
 given_accepted c entries output accepted d =
-    draw_once c entries output d (draws_accepted c entries output refl accepted refl refl)
+    draw_once c entries output d (draws_accepted c entries output accepted refl refl)
 
 -- A row of well-shaped entries, and an output, of their lengths.
 pub record Lendable (entries output : List ℕ) : Type 0 where
@@ -61,7 +62,7 @@ module _ (entries output : List ℕ) (l : Lendable entries output) where
       → verdict
       (first_line (tab vram video_ram_size) (tab palette palette_ram_size) (tab oam oam_size) (tab registers registers_size))
       entries output
-      ≡ Accepted
+      ≡ Ok Drawn
   unfolding verdict have_lengths in_ranges in_range
   accepted_line vram palette oam registers blank_is mode_is bldy-is =
       rw (
@@ -79,11 +80,11 @@ module _ (entries output : List ℕ) (l : Lendable entries output) where
         l.shaped,
       )
 
-  pub accepted-dark : verdict dark entries output ≡ Accepted
+  pub accepted-dark : verdict dark entries output ≡ Ok Drawn
   accepted-dark = accepted_line _ _ _ _ refl refl refl
 
-  pub accepted-lit : verdict lit entries output ≡ Accepted
+  pub accepted-lit : verdict lit entries output ≡ Ok Drawn
   accepted-lit = accepted_line _ _ _ _ refl refl refl
 
-  pub accepted-covered : (p : ℕ) → verdict (covered p) entries output ≡ Accepted
+  pub accepted-covered : (p : ℕ) → verdict (covered p) entries output ≡ Ok Drawn
   accepted-covered p = accepted_line _ _ _ _ refl refl refl

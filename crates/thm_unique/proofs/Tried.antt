@@ -16,7 +16,8 @@ use Rattle.obj_entries.specs.Entry.{entry_cells, entries_size, reset_row}
 use Rattle.gpu_judge.specs.Judge.{Call, verdict}
 use Rattle.gpu.specs.Line.{blank_line}
 use Rattle.gpu.specs.Draw.{draw}
-use Rattle.gpu_judge.specs.declared.Verdict.TheVariants.{Accepted}
+use Rattle.std.specs.declared.result.Result.TheVariants.{Ok}
+use Rattle.gpu_judge.specs.declared.Picture.TheVariants.{Drawn}
 use Rattle.thm_unique.specs.Useless.{Meets, RefusesAll, PaintsAlike, LeavesEntries, FirstOnly}
 use Rattle.thm_unique.specs.Useless.{refuser, painter, keeper, is_reset, starter}
 use Rattle.thm_unique.proofs.Once.{draw_some}
@@ -33,7 +34,7 @@ refuser_refuses c entries output = λ e. omega arith
 pub painter_paints : PaintsAlike painter
 unfolding painter
 painter_paints c d entries output c-is d-is =
-    let blank : (b : Call) → verdict b entries output ≡ Accepted → (painter b entries output).output ≡ blank_line
+    let blank : (b : Call) → verdict b entries output ≡ Ok Drawn → (painter b entries output).output ≡ blank_line
     = λ b b-is.
     rw (given_accepted b entries output b-is (draw_some b entries output)).0 in
     blank c c-is ∙ sym (blank d d-is)

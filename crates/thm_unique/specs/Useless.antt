@@ -6,7 +6,8 @@ use Rattle.obj_entries.specs.Entry.{entries_size, reset_row}
 use Rattle.gpu_judge.specs.Judge.{Call, verdict}
 use Rattle.gpu.specs.Line.{blank_line}
 use Rattle.gpu.specs.Draw.{Drawing, draw, Draws}
-use Rattle.gpu_judge.specs.declared.Verdict.TheVariants.{Accepted}
+use Rattle.std.specs.declared.result.Result.TheVariants.{Ok}
+use Rattle.gpu_judge.specs.declared.Picture.TheVariants.{Drawn}
 
 -- A program: what it gives for what it is asked for, the entries and the output.
 abbrev pub Program : Type 0
@@ -28,7 +29,7 @@ RefusesAll program = (c : Call) (entries output : List ℕ) → (program c entri
 abbrev pub PaintsAlike : Program → Type 0
 PaintsAlike program =
     (c d : Call) (entries output : List ℕ)
-    → verdict c entries output ≡ Accepted → verdict d entries output ≡ Accepted
+    → verdict c entries output ≡ Ok Drawn → verdict d entries output ≡ Ok Drawn
     → (program c entries output).output ≡ (program d entries output).output
 
 -- One that leaves the entries untouched.

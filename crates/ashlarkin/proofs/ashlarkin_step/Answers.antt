@@ -8,6 +8,7 @@ use Rattle.ashlarkin.proofs.ashlarkin_step.Goals as goal
 pub returns : goal.returns
 returns c =
     let fits = c.ranges in
-    c.step.ensures
+    rw c.number.ensures
+    (c.step.ensures
     ∙ ap (λ s. step s c.args.references.now)
-    (steps-read _ fits.pb2.sfits fits.pd2.sfits fits.pb3.sfits fits.pd3.sfits)
+    (steps-read _ fits.pb2.sfits fits.pd2.sfits fits.pb3.sfits fits.pd3.sfits))
