@@ -1,124 +1,112 @@
 // The oracle's answer beside what a routine gave.
-ghost use Rattle.std.specs.Prelude.{[], ◌∷◌};
+ghost use Rattle.std.specs.Prelude.{[], ◌≤◌, length};
 ghost use Rattle.run_replay.specs.Same.{SameOnlyIf};
 
-use crate::list::{REASON_SIZE, ROW_ROOM};
+use std::io::ErrorKind;
+use std::{fmt, io};
 
-// What came of a record: the same, or what differed, or a list that ends before it does.
-#[derive(Clone, Copy)]
-pub(crate) enum Found {
-    Same,
+// Where an answer isn't the oracle's: the number that was given, or the place of the first byte or field that differs.
+#[derive(Clone, Copy, Debug, PartialEq, Eq)]
+pub(crate) enum Difference {
     Number(u32),
     Entries(usize),
     Output(usize),
     Field(usize),
-    Cut,
 }
 
-// The place of the first byte that differs.
-fn first_difference(a: &[u8], b: &[u8]) -> usize {
-    let mut i = 0;
-    while i < a.len() {
-        if i < b.len() {
-            if a[i] != b[i] {
-                return i;
-            }
+impl fmt::Display for Difference {
+    fn fmt<W: fmt::Write>(&self, f: &mut fmt::Formatter<W>) -> fmt::Result {
+        match self {
+            Difference::Number(number) => write!(f, "not the number {number}"),
+            Difference::Entries(place) => write!(f, "entries differ from byte {place}"),
+            Difference::Output(place) => write!(f, "output differs from byte {place}"),
+            Difference::Field(place) => write!(f, "field {place} of the answer differs"),
         }
-        i += 1;
     }
-    i
 }
 
-// Number, entries and output beside the oracle's, of which whole says whether the list had them all.
-pub(crate) fn compare(
-    whole: bool,
-    number: u32,
-    entries: &[u8],
-    output: &[u8],
-    oracle_number: u32,
-    oracle_entries: &[u8],
-    oracle_output: &[u8],
-) -> Found
-    ensures { SameOnlyIf result
-        number entries.now output.now
-        oracle_number oracle_entries.now oracle_output.now }
+// Why a record isn't as it must be: it differs, or the list ends in it, or can't be read.
+#[derive(Debug, Drop)]
+pub(crate) enum Fault {
+    Differs(Difference),
+    Cut,
+    Input(io::Error),
+}
+
+impl From<Difference> for Fault {
+    fn from(difference: Difference) -> Fault {
+        Fault::Differs(difference)
+    }
+}
+
+impl From<io::Error> for Fault {
+    fn from(e: io::Error) -> Fault {
+        match e.kind() {
+            ErrorKind::UnexpectedEof => Fault::Cut,
+            _ => Fault::Input(e),
+        }
+    }
+}
+
+// What a call leaves: its number, and the rows that it was lent.
+#[derive(Clone, Copy)]
+pub(crate) struct Answer<'a> {
+    pub(crate) number: u32,
+    pub(crate) entries: &'a [u8],
+    pub(crate) output: &'a [u8],
+}
+
+// The place of the first item that differs.
+fn first_difference<T: PartialEq>(ours: &[T], oracle: &[T]) -> usize
+    ensures { result ≤ length ours.now }
 {
-    if !whole {
-        return Found::Cut;
-    }
-    if number != oracle_number {
-        return Found::Number(number);
-    }
-    if entries != oracle_entries {
-        return Found::Entries(first_difference(entries, oracle_entries));
-    }
-    if output != oracle_output {
-        return Found::Output(first_difference(output, oracle_output));
-    }
-    Found::Same
+    ours.iter()
+        .zip(oracle)
+        .position(|(a, b)| a != b)
+        .unwrap_or(ours.len())
 }
 
-// The same of rows of entries and output, with room for rows that are too long.
-pub(crate) fn compare_rows(
-    whole: bool,
-    number: u32,
-    entries: &[u8; ROW_ROOM],
-    output: &[u8; ROW_ROOM],
-    oracle_number: u32,
-    oracle_entries: &[u8; ROW_ROOM],
-    oracle_output: &[u8; ROW_ROOM],
-) -> Found
-    ensures { SameOnlyIf result
-        number entries.now output.now
-        oracle_number oracle_entries.now oracle_output.now }
+pub(crate) fn compare_numbers(number: u32, oracle_number: u32) -> Result<(), Difference>
+    ensures { SameOnlyIf result number [] [] oracle_number [] [] }
 {
-    compare(
-        whole,
-        number,
-        entries,
-        output,
-        oracle_number,
-        oracle_entries,
-        oracle_output,
-    )
+    if number == oracle_number {
+        Ok(())
+    } else {
+        Err(Difference::Number(number))
+    }
 }
 
-// The same of the fields of a reason, a word each behind its number, which is field 0.
+// Number, entries and output.
+pub(crate) fn compare(ours: Answer<'_>, oracle: Answer<'_>) -> Result<(), Difference>
+    ensures { SameOnlyIf result
+        ours.entry.number ours.entry.entries.now ours.entry.output.now
+        oracle.entry.number oracle.entry.entries.now oracle.entry.output.now }
+{
+    compare_numbers(ours.number, oracle.number)?;
+    if ours.entries != oracle.entries {
+        let place = first_difference(ours.entries, oracle.entries);
+        return Err(Difference::Entries(place));
+    }
+    if ours.output != oracle.output {
+        let place = first_difference(ours.output, oracle.output);
+        return Err(Difference::Output(place));
+    }
+    Ok(())
+}
+
+// The number, which is field 0, and the fields behind it.
 pub(crate) fn compare_fields(
-    whole: bool,
     number: u32,
-    fields: &[u8; REASON_SIZE],
+    fields: &[u32],
     oracle_number: u32,
-    oracle_fields: &[u8; REASON_SIZE],
-) -> Found
-    ensures { SameOnlyIf result
-        number fields.now []
-        oracle_number oracle_fields.now [] }
+    oracle_fields: &[u32],
+) -> Result<(), Difference>
+    ensures { SameOnlyIf result number fields.now [] oracle_number oracle_fields.now [] }
 {
-    let found = compare(
-        whole,
-        number,
-        fields,
-        b"",
-        oracle_number,
-        oracle_fields,
-        b"",
-    );
-    match found {
-        Found::Entries(place) => Found::Field(place / 4 + 1),
-        other => other,
+    compare_numbers(number, oracle_number)?;
+    if fields != oracle_fields {
+        let place = first_difference(fields, oracle_fields);
+        return Err(Difference::Field(place + 1));
     }
-}
-
-// The same of a byte that was read, field 1 behind its number.
-pub(crate) fn compare_byte(number: u32, value: u32, oracle_number: u32, oracle_value: u32) -> Found
-    ensures { SameOnlyIf result number (value ∷ []) [] oracle_number (oracle_value ∷ []) [] }
-{
-    if number != oracle_number {
-        return Found::Number(number);
-    }
-    if value != oracle_value {
-        return Found::Field(1);
-    }
-    Found::Same
+    Ok(())
 }

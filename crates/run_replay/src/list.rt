@@ -1,68 +1,15 @@
 // Reading the list.
 ghost use Rattle.std.specs.Prelude.{◌^◌, ◌<◌};
 
+use crate::compare::Fault;
 use std::io;
 use std::io::{ErrorKind, Read};
 
 // The five video memories.
 pub(crate) const IMAGES_SIZE: usize = 655680;
 
-// A head's 17 words, by name.
-pub(crate) const HEAD_SIZE: usize = 68;
-
-pub(crate) const CALL: usize = 0;
-
-pub(crate) const GROUP: usize = 1;
-
-pub(crate) const NUMBER: usize = 2;
-
-pub(crate) const FOLLOW: usize = 3;
-
-pub(crate) const READING: usize = 4;
-
-pub(crate) const LINE: usize = 5;
-
-pub(crate) const X2: usize = 6;
-
-pub(crate) const Y2: usize = 7;
-
-pub(crate) const X3: usize = 8;
-
-pub(crate) const Y3: usize = 9;
-
-pub(crate) const START: usize = 10;
-
-pub(crate) const VRAM: usize = 11;
-
-pub(crate) const PALETTE: usize = 12;
-
-pub(crate) const OAM: usize = 13;
-
-pub(crate) const REGISTERS: usize = 14;
-
-pub(crate) const ENTRIES: usize = 15;
-
-pub(crate) const OUTPUT: usize = 16;
-
-pub(crate) const COLUMN: usize = 16;
-
-// Of a read or a store.
-pub(crate) const ADDRESS: usize = 6;
-
-pub(crate) const VALUE: usize = 7;
-
-pub(crate) const DISPCNT: usize = 8;
-
-// The calls; 2 is a reset, and 6 a halfword store.
-pub(crate) const DRAW: u32 = 0;
-
-pub(crate) const STEP: u32 = 1;
-
-pub(crate) const EXPLAIN: u32 = 3;
-
-pub(crate) const READ8: u32 = 4;
-
-pub(crate) const STORE8: u32 = 5;
+// A head's 17 words.
+const HEAD_SIZE: usize = 68;
 
 // Room for buffers of twice their length, which a draw refuses; palette, OAM and registers share theirs.
 pub(crate) const MEMORY_ROOM: usize = 4268;
@@ -78,106 +25,162 @@ pub(crate) const ROW_ROOM: usize = 1920;
 
 pub(crate) const REFERENCES_ROOM: usize = 32;
 
-// Ten words.
-pub(crate) const REASON_SIZE: usize = 40;
+// The call of a record.
+#[derive(Clone, Copy, PartialEq, Eq)]
+pub(crate) enum Call {
+    Draw,
+    Step,
+    Reset,
+    Explain,
+    Read8,
+    Store8,
+    Store16,
+}
 
-// The bits that say which buffers follow, by what they are worth.
-pub(crate) const MEMORY_FOLLOWS: u32 = 1;
+impl From<u32> for Call {
+    fn from(word: u32) -> Call {
+        match word {
+            0 => Call::Draw,
+            1 => Call::Step,
+            2 => Call::Reset,
+            3 => Call::Explain,
+            4 => Call::Read8,
+            5 => Call::Store8,
+            _ => Call::Store16,
+        }
+    }
+}
 
-pub(crate) const ENTRIES_FOLLOW: u32 = 2;
+// A head's words, in order.
+#[derive(Clone, Copy)]
+pub(crate) enum Word {
+    Call,
+    Group,
+    Number,
+    Follow,
+    Reading,
+    Line,
+    X2,
+    Y2,
+    X3,
+    Y3,
+    Start,
+    Vram,
+    Palette,
+    Oam,
+    Registers,
+    Entries,
+    Output,
+}
 
-pub(crate) const ENTRIES_AFTER_FOLLOW: u32 = 4;
+impl Word {
+    // Of a reason.
+    pub(crate) const COLUMN: Word = Word::Output;
 
-pub(crate) const OUTPUT_AFTER_FOLLOWS: u32 = 8;
+    // Of a read or a store.
+    pub(crate) const ADDRESS: Word = Word::X2;
 
-// The words from 2^31 on stand for themselves less 2^32, and the halfwords from 2^15 on for themselves less 2^16.
-const SIGN: u32 = 0x8000_0000;
+    pub(crate) const VALUE: Word = Word::Y2;
 
-const HALF_SIGN: u32 = 0x8000;
+    pub(crate) const DISPCNT: Word = Word::X3;
+}
 
-// Fills the buffer from the list; false where the list ends before.
-pub(crate) fn read(input: &mut impl Read, buffer: &mut [u8]) -> io::Result<bool> {
+// The buffers that can follow a head, each by what its bit is worth.
+#[derive(Clone, Copy)]
+pub(crate) enum Buffer {
+    Memory = 1,
+    Entries = 2,
+    EntriesAfter = 4,
+    OutputAfter = 8,
+}
+
+#[derive(Drop)]
+pub(crate) struct Head([u8; HEAD_SIZE]);
+
+impl Head {
+    // The next head; none where the list ends before it does.
+    pub(crate) fn read(input: &mut impl Read) -> io::Result<Option<Head>> {
+        let mut bytes = [0; HEAD_SIZE];
+        let whole = read_whole(input, &mut bytes)?;
+        Ok(whole.map(|()| Head(bytes)))
+    }
+
+    pub(crate) fn word(&self, word: Word) -> u32 {
+        rows::word_at(&self.0, word as usize)
+    }
+
+    pub(crate) fn call(&self) -> Call {
+        Call::from(self.word(Word::Call))
+    }
+
+    // A word as a size.
+    pub(crate) fn size(&self, word: Word) -> usize
+        ensures { result < 2 ^ 32 }
+    {
+        self.word(word) as usize
+    }
+
+    // A word as a signed number.
+    pub(crate) fn signed(&self, word: Word) -> i32 {
+        self.word(word).cast_signed()
+    }
+
+    // The low byte of a word.
+    pub(crate) fn byte(&self, word: Word) -> u8 {
+        let [low, ..] = self.word(word).to_le_bytes();
+        low
+    }
+
+    // The low half of a word.
+    pub(crate) fn half(&self, word: Word) -> u16 {
+        let [low, high, ..] = self.word(word).to_le_bytes();
+        u16::from_le_bytes([low, high])
+    }
+
+    // The low half of a word as a signed number.
+    pub(crate) fn signed_half(&self, word: Word) -> i16 {
+        self.half(word).cast_signed()
+    }
+
+    // Fills the first bytes of the room, if the buffer follows.
+    pub(crate) fn read_buffer(
+        &self,
+        input: &mut impl Read,
+        buffer: Buffer,
+        room: &mut [u8],
+        size: usize,
+    ) -> Result<(), Fault> {
+        if self.word(Word::Follow) & buffer as u32 == 0 {
+            return Ok(());
+        }
+        let bytes = room.get_mut(..size).ok_or(Fault::Cut)?;
+        input.read_exact(bytes)?;
+        Ok(())
+    }
+}
+
+// Fills the buffer; none where the list ends before.
+pub(crate) fn read_whole(input: &mut impl Read, buffer: &mut [u8]) -> io::Result<Option<()>> {
     match input.read_exact(buffer) {
-        Ok(()) => Ok(true),
-        Err(e) if e.kind() == ErrorKind::UnexpectedEof => Ok(false),
+        Ok(()) => Ok(Some(())),
+        Err(e) if e.kind() == ErrorKind::UnexpectedEof => Ok(None),
         Err(e) => Err(e),
     }
 }
 
-pub(crate) fn read_head(input: &mut impl Read, head: &mut [u8; HEAD_SIZE]) -> io::Result<bool> {
-    read(input, head)
+// The first bytes of a buffer, all where there are fewer, and those behind them.
+pub(crate) fn split(buffer: &[u8], size: usize) -> (&[u8], &[u8]) {
+    let size = size.min(buffer.len());
+    buffer.split_at(size)
 }
 
-// Fills the first bytes of the buffer, if it follows; false where the list ends before or the buffer is too short.
-pub(crate) fn read_given(
-    input: &mut impl Read,
-    follows: bool,
-    buffer: &mut [u8],
-    size: usize,
-) -> io::Result<bool> {
-    if !follows {
-        return Ok(true);
-    }
-    if size > buffer.len() {
-        return Ok(false);
-    }
-    read(input, &mut buffer[0..size])
-}
-
-// Word k of a head.
-pub(crate) fn word(head: &[u8; HEAD_SIZE], k: usize) -> u32
-    requires { k < 17 }
-{
-    rows::word_at(head, k)
-}
-
-// Word k of a head, as a size.
-pub(crate) fn size(head: &[u8; HEAD_SIZE], k: usize) -> usize
-    requires { k < 17 }
-    ensures { result < 2 ^ 32 }
-{
-    word(head, k) as usize
-}
-
-// The signed number of word k of a head.
-pub(crate) fn signed(head: &[u8; HEAD_SIZE], k: usize) -> i32
-    requires { k < 17 }
-{
-    let w = word(head, k);
-    if w < SIGN {
-        w as i32
-    } else {
-        !((0xffff_ffff - w) as i32)
-    }
-}
-
-// The signed number of the low half of word k of a head.
-pub(crate) fn signed_half(head: &[u8; HEAD_SIZE], k: usize) -> i16
-    requires { k < 17 }
-{
-    let h = word(head, k) % 0x1_0000;
-    if h < HALF_SIGN {
-        h as i16
-    } else {
-        !((0xffff - h) as i16)
-    }
-}
-
-// What is lent of a buffer from a place on; all that is there where that is less.
-pub(crate) fn lent(buffer: &[u8], start: usize, size: usize) -> &[u8] {
-    if start >= buffer.len() {
-        &buffer[0..0]
-    } else if size < buffer.len() - start {
-        &buffer[start..start + size]
-    } else {
-        &buffer[start..]
-    }
+// The first bytes of a buffer; all where there are fewer.
+pub(crate) fn lent(buffer: &[u8], size: usize) -> &[u8] {
+    let size = size.min(buffer.len());
+    &buffer[..size]
 }
 
 pub(crate) fn lent_mut(buffer: &mut [u8], size: usize) -> &mut [u8] {
-    if size < buffer.len() {
-        &mut buffer[0..size]
-    } else {
-        buffer
-    }
+    let size = size.min(buffer.len());
+    &mut buffer[..size]
 }

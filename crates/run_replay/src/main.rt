@@ -28,141 +28,69 @@ mod compare;
 mod list;
 mod tally;
 
-use bus::{replay_read, replay_store};
-use calls::{replay_reason, replay_rows, replay_step};
-use compare::Found;
-use list::{read, word};
+use bus::Bus;
+use calls::{Draws, replay_step};
+use compare::Fault;
+use list::{Call, Head, IMAGES_SIZE, read_whole};
 use std::io;
 use std::io::Read;
-use tally::COUNTS;
+use tally::Tally;
 
 // No list has as many records; a loop has to end.
 const MOST_RECORDS: u32 = 1_000_000;
 
-// The call of a record.
-fn replay(
-    input: &mut impl Read,
-    head: &[u8; list::HEAD_SIZE],
-    images: &mut [u8; list::IMAGES_SIZE],
-    palette: &mut [u8; list::PALETTE_ROOM],
-    oam: &mut [u8; list::OAM_ROOM],
-    memory: &mut [u8; list::MEMORY_ROOM],
-    entries: &mut [u8; list::ROW_ROOM],
-    output: &mut [u8; list::ROW_ROOM],
-) -> io::Result<Found> {
-    let call = word(head, list::CALL);
-    if call == list::STEP {
-        replay_step(input, head)
-    } else if call == list::EXPLAIN {
-        replay_reason(input, head, images, memory, entries)
-    } else if call == list::READ8 {
-        Ok(replay_read(head, images, palette, oam))
-    } else if call > list::READ8 {
-        Ok(replay_store(head, images, palette, oam))
-    } else {
-        replay_rows(input, head, images, memory, entries, output)
+// What records are called with.
+#[derive(Drop)]
+struct Replay {
+    images: [u8; IMAGES_SIZE],
+    bus: Bus,
+    draws: Draws,
+}
+
+impl Replay {
+    fn new() -> Replay {
+        Replay {
+            images: [0; IMAGES_SIZE],
+            bus: Bus::new(),
+            draws: Draws::new(),
+        }
     }
-}
 
-// Prints the text, and for each # in it the next of the numbers.
-pub(crate) fn print_text(rt: &impl Print, text: &[u8], numbers: &[u64]) -> io::Result<()> {
-    let mut i = 0;
-    let mut k = 0;
-    while i < text.len() {
-        if text[i] != b'#' {
-            rt.write_all(&text[i..i + 1])?;
-        } else if k < numbers.len() {
-            rt.print(numbers[k])?;
-            k += 1;
+    // The call of a record.
+    fn replay(&mut self, input: &mut impl Read, head: &Head) -> Result<(), Fault> {
+        match head.call() {
+            Call::Draw | Call::Reset => self.draws.replay_row(input, head, &self.images),
+            Call::Step => replay_step(input, head),
+            Call::Explain => self.draws.replay_reason(input, head, &self.images),
+            Call::Read8 => Ok(self.bus.replay_read(head, &self.images)?),
+            Call::Store8 => Ok(self.bus.replay_store8(head, &mut self.images)?),
+            Call::Store16 => Ok(self.bus.replay_store16(head, &mut self.images)?),
         }
-        i += 1;
     }
-    Ok(())
-}
 
-fn print_place(rt: &impl Print, text: &[u8], k: u32, place: u64) -> io::Result<()> {
-    print_text(rt, text, &[k as u64, place])
-}
-
-// Says where call k differs, if it does. Whether it doesn't.
-fn is_same(rt: &impl Print, k: u32, found: Found) -> io::Result<bool> {
-    match found {
-        Found::Same => return Ok(true),
-        Found::Number(number) => {
-            print_place(rt, b"call #: not the number #\n", k, number as u64)?
+    // The records replayed and counted, up to the first that differs.
+    fn replay_all(&mut self, rt: &impl Print, input: &mut impl Read) -> io::Result<()> {
+        let mut tally = Tally::new();
+        for k in 0..MOST_RECORDS {
+            let Some(head) = Head::read(input)? else {
+                break;
+            };
+            match self.replay(input, &head) {
+                Ok(()) => tally.count_record(&head, &self.draws.memory),
+                Err(Fault::Differs(difference)) => return println!(rt; "call {k}: {difference}"),
+                Err(Fault::Cut) => return println!(rt; "call {k}: the list ends in record {k}"),
+                Err(Fault::Input(e)) => return Err(e),
+            }
         }
-        Found::Entries(place) => {
-            print_place(rt, b"call #: entries differ from byte #\n", k, place as u64)?
-        }
-        Found::Output(place) => {
-            print_place(rt, b"call #: output differs from byte #\n", k, place as u64)?
-        }
-        Found::Field(place) => {
-            print_place(
-                rt,
-                b"call #: field # of the answer differs\n",
-                k,
-                place as u64,
-            )?
-        }
-        Found::Cut => print_place(rt, b"call #: the list ends in record #\n", k, k as u64)?,
-    }
-    Ok(false)
-}
-
-// The records replayed and counted, up to the first that differs.
-fn replay_all(
-    rt: &impl Print,
-    input: &mut impl Read,
-    images: &mut [u8; list::IMAGES_SIZE],
-) -> io::Result<()> {
-    let mut counts = [0u64; COUNTS];
-    let mut head = [0u8; list::HEAD_SIZE];
-    let mut palette = [0u8; list::PALETTE_ROOM];
-    let mut oam = [0u8; list::OAM_ROOM];
-    let mut memory = [0u8; list::MEMORY_ROOM];
-    let mut entries = [0u8; list::ROW_ROOM];
-    let mut output = [0u8; list::ROW_ROOM];
-    let mut k: u32 = 0;
-    while k < MOST_RECORDS {
-        if !list::read_head(input, &mut head)? {
-            break;
-        }
-        let found = replay(
-            input,
-            &head,
-            images,
-            &mut palette,
-            &mut oam,
-            &mut memory,
-            &mut entries,
-            &mut output,
-        )?;
-        if !is_same(rt, k, found)? {
-            return Ok(());
-        }
-        let next = tally::count_record(counts, &head, &memory);
-        counts = next;
-        k += 1;
-    }
-    tally::print(rt, &counts)
-}
-
-// The list replayed; images is room for its video memories.
-fn replay_list(
-    rt: &impl Print,
-    input: &mut impl Read,
-    images: &mut [u8; list::IMAGES_SIZE],
-) -> io::Result<()> {
-    if read(input, images)? {
-        replay_all(rt, input, images)
-    } else {
-        println!(rt; "the list ends in its video memories")
+        print!(rt; "{tally}")
     }
 }
 
 fn main(rt: HostRuntime) -> io::Result<()> {
-    let mut images = [0u8; list::IMAGES_SIZE];
+    let mut replay = Replay::new();
     let mut input = rt.stdin();
-    replay_list(&rt, &mut input, &mut images)
+    if read_whole(&mut input, &mut replay.images)?.is_none() {
+        return println!(rt; "the list ends in its video memories");
+    }
+    replay.replay_all(&rt, &mut input)
 }
