@@ -61,6 +61,13 @@ impl<'a> Model for Memory<'a> {
     ghost invariant = { λ m. MemoryLengths (memory_bytes m) };
 }
 
+// What the colours of a background or a sprite are read from: `Colors { vram: memory.vram, palette: memory.palette }` of a memory.
+#[derive(Clone, Copy)]
+pub struct Colors<'a> {
+    pub vram: &'a VideoRam,
+    pub palette: &'a PaletteRam,
+}
+
 // The byte at `at`, as an index.
 pub fn read_8(bytes: &[u8], at: usize) -> usize
     requires { at < length bytes.now }

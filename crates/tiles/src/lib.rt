@@ -13,7 +13,7 @@ ghost use Rattle.tiles.specs.Flip.{flip};
 ghost use Rattle.memory.specs.Sizes.{video_ram_size};
 ghost use Rattle.tiles.specs.Code.{TileColors, color_in_tile};
 
-use memory::{Memory, PixelFormat, VideoRam, get_palette_color, read_16, read_pixel_index};
+use memory::{Colors, PixelFormat, VideoRam, get_palette_color, read_16, read_pixel_index};
 use rgb15::Rgb15;
 use std::array;
 
@@ -50,29 +50,29 @@ pub struct Tile {
 
 impl Tile {
     // The colour of a pixel, from the background's half of the palette or, at OFFSET 0x200, the sprites'.
-    pub fn color<const OFFSET: usize>(self, memory: &Memory, x: usize, y: usize) -> Rgb15
+    pub fn color<const OFFSET: usize>(self, colors: Colors, x: usize, y: usize) -> Rgb15
         requires { TileColors OFFSET self × (x < 8) × (y < 8) }
-        ensures { result.0 ≡ color_in_tile memory.now OFFSET self x y }
+        ensures { result.0 ≡ color_in_tile colors.entry OFFSET self x y }
     {
-        let index = read_pixel_index(memory.vram, self.addr, x, y, self.format);
-        get_palette_color(memory.palette, index, self.bank, OFFSET)
+        let index = read_pixel_index(colors.vram, self.addr, x, y, self.format);
+        get_palette_color(colors.palette, index, self.bank, OFFSET)
     }
 
     // The colours of row y, from right to left if it is flipped.
     pub fn row<const OFFSET: usize>(
         self,
-        memory: &Memory,
+        colors: Colors,
         y: usize,
         flipped: bool,
     ) -> [Rgb15; TILE_SIDE]
         requires { TileColors OFFSET self × (y < 8) }
-        ensures { result ≡ tab (λ x. rgb (color_in_tile memory.now OFFSET self (flip flipped 8 x) y)) 8 }
+        ensures { result ≡ tab (λ x. rgb (color_in_tile colors.entry OFFSET self (flip flipped 8 x) y)) 8 }
     {
         let row = array::from_fn(
             |x: usize| -> Rgb15
                 requires { TileColors OFFSET self × (x < 8) × (y < 8) }
-                ensures { result.0 ≡ color_in_tile memory.entry.now OFFSET self x y }
-            { self.color::<OFFSET>(memory, x, y) },
+                ensures { result.0 ≡ color_in_tile colors.entry OFFSET self x y }
+            { self.color::<OFFSET>(colors, x, y) },
         );
         flip_row(row, flipped)
     }

@@ -10,6 +10,6 @@ use Rattle.tiles.proofs.Tile.row.Goals as goal
 pub returns : goal.returns
 returns g c =
     flipped_tab _ _ _
-    (made_tab _ (λ x. rgb (color_in_tile c.args.memory.now g.row.OFFSET c.args.self x c.args.y)) _ _ 8 (rgb 0)
+    (made_tab _ (λ x. rgb (color_in_tile c.args.colors g.row.OFFSET c.args.self x c.args.y)) _ _ 8 (rgb 0)
     (λ i y q i< k. search rules) c.from_fn-row.ensures.items)
     c.flip_row.ensures
