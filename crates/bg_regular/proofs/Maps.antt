@@ -11,7 +11,7 @@ use Rattle.rgb15.specs.Colour.{rgb, transparent}
 use Rattle.rgb15.specs.declared.Rgb15.{Rgb15}
 use Rattle.rows.specs.Tab.{tab}
 use Rattle.rows.proofs.Tab.{get_or-of-tab, tab_cong}
-use Rattle.memory.specs.Memory.{Memory}
+use Rattle.memory.specs.declared.Colors.{Colors}
 use Rattle.std.specs.List.{flat_map}
 use Rattle.memory.specs.Tiles.{tile_size, palette_bank}
 use Rattle.memory.specs.declared.PixelFormat.{PixelFormat}
@@ -75,28 +75,28 @@ side_cases side s =
     ⊎_elim (λ e. inl (sym e)) (λ lt. inr (omega (arith, lt, s.whole, s.side≤))) (eq-or-lt_of_le s.side≥)
 
 -- The eight colours that the entry of a tile's first column shows are those of its eight columns.
-pub tile_row_is : (memory : Memory) (m : RegularMap) (tile y : ℕ) {first entry : ℕ} {r : List Rgb15} →
-    (m.width ≡ 256) ⊎ (m.width ≡ 512) → first ≡ 8 * tile % m.width → entry ≡ map_entry memory.vram m.tilemap_base m.width first y →
-    r ≡ tab (λ x. rgb (entry_color memory.vram memory.palette m.tileset_base m.format entry x (y % 8))) 8 →
-    r ≡ tab (λ x. rgb (map_pixel memory m ((8 * tile + x) % m.width) y)) 8
-tile_row_is memory m tile y {first} {entry} widths first_is entry-is r-is = r-is ∙ tab_cong _ _ 8 (λ x x<. ap rgb (color x x<))
+pub tile_row_is : (c : Colors) (m : RegularMap) (tile y : ℕ) {first entry : ℕ} {r : List Rgb15} →
+    (m.width ≡ 256) ⊎ (m.width ≡ 512) → first ≡ 8 * tile % m.width → entry ≡ map_entry c.vram.now m.tilemap_base m.width first y →
+    r ≡ tab (λ x. rgb (entry_color c.vram.now c.palette.now m.tileset_base m.format entry x (y % 8))) 8 →
+    r ≡ tab (λ x. rgb (map_pixel c m ((8 * tile + x) % m.width) y)) 8
+tile_row_is c m tile y {first} {entry} widths first_is entry-is r-is = r-is ∙ tab_cong _ _ 8 (λ x x<. ap rgb (color x x<))
   where
-    color : (x : ℕ) → x < 8 → entry_color memory.vram memory.palette m.tileset_base m.format entry x (y % 8)
-        ≡ map_pixel memory m ((8 * tile + x) % m.width) y
+    color : (x : ℕ) → x < 8 → entry_color c.vram.now c.palette.now m.tileset_base m.format entry x (y % 8)
+        ≡ map_pixel c m ((8 * tile + x) % m.width) y
     color x x< =
         let column = tile_column m.width tile x widths x< in
         let next : (8 * tile + x) % m.width ≡ first + x = column.next ∙ ap (λ (n : ℕ). n + x) (sym first_is) in
         let whole : first % 8 ≡ 0 = ap (λ (n : ℕ). n % 8) first_is ∙ column.whole in
         let pixel : (first + x) % 8 ≡ x = omega arith in
-        rw (next, pixel, entry-is, map_entry_tile memory.vram m.tilemap_base m.width first y x whole x<) refl
+        rw (next, pixel, entry-is, map_entry_tile c.vram.now m.tilemap_base m.width first y x whole x<) refl
 
 -- So a tile of a map is eight columns of the line.
-pub map_tile_is : (memory : Memory) (control hofs vofs line t y : ℕ) {m : RegularMap} {r : List Rgb15} →
+pub map_tile_is : (c : Colors) (control hofs vofs line t y : ℕ) {m : RegularMap} {r : List Rgb15} →
     RegularMapOf control m → y ≡ (line + vofs) % m.height →
-    r ≡ tab (λ x. rgb (map_pixel memory m ((8 * (hofs / 8 + t) + x) % m.width) y)) 8 →
-    r ≡ tab (λ x. rgb (regular_color memory.vram memory.palette control (hofs / 8 * 8) vofs (8 * t + x) line)) 8
+    r ≡ tab (λ x. rgb (map_pixel c m ((8 * (hofs / 8 + t) + x) % m.width) y)) 8 →
+    r ≡ tab (λ x. rgb (regular_color c.vram.now c.palette.now control (hofs / 8 * 8) vofs (8 * t + x) line)) 8
 unfolding regular_color regular_pixel
-map_tile_is memory control hofs vofs line t y map-is y_is r-is =
+map_tile_is c control hofs vofs line t y map-is y_is r-is =
     r-is ∙ tab_cong _ _ 8 (λ x x<.
     let column : 8 * (hofs / 8 + t) + x ≡ 8 * t + x + hofs / 8 * 8 = omega arith in
     ap rgb (cc (column, map-is.screen_is, map-is.tiles_is, map-is.format_is, map-is.width_is, map-is.height_is, y_is)))

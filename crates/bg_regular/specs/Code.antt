@@ -1,7 +1,7 @@
 -- As code has it: what a regular background's line and map are read from (01, "Backgrounds", its first paragraph).
 -- No exported contract reaches this file. Assumes nothing.
 use Rattle.std.specs.Prelude.{ℕ, ◌%◌, ◌≤◌, ◌<◌, ◌≡◌}
-use Rattle.memory.specs.Memory.{Memory}
+use Rattle.memory.specs.declared.Colors.{Colors}
 use Rattle.regs.specs.Background.{character_base_block, screen_base_block, palette256, size, char_block, screen_block}
 use Rattle.regs.specs.Background.{regular_width, regular_height, tile_format}
 use Rattle.bg_regular.specs.Regular.{map_entry, entry_color}
@@ -36,7 +36,7 @@ pub record RegularMapOf (control : ℕ) (m : RegularMap) : Type 0 where
   pub height_is : m.height ≡ regular_height (size control)
 
 -- The colour at x and y of a map.
-abbrev pub map_pixel : Memory → RegularMap → ℕ → ℕ → ℕ
-map_pixel memory m x y =
-    entry_color memory.vram memory.palette m.tileset_base m.format
-    (map_entry memory.vram m.tilemap_base m.width x y) (x % 8) (y % 8)
+abbrev pub map_pixel : Colors → RegularMap → ℕ → ℕ → ℕ
+map_pixel c m x y =
+    entry_color c.vram.now c.palette.now m.tileset_base m.format
+    (map_entry c.vram.now m.tilemap_base m.width x y) (x % 8) (y % 8)

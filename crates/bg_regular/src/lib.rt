@@ -8,7 +8,7 @@ ghost use Rattle.rows.specs.Tab.{tab};
 ghost use Rattle.bg_regular.specs.Regular.{tile_index, x_flip, y_flip, entry_bank, map_entry, entry_color, regular_color};
 ghost use Rattle.bg_regular.specs.Code.{Scrolled, MapSide, Placed, RegularMapOf, map_pixel};
 
-use memory::{DISPLAY_WIDTH, Memory, PixelFormat, VideoRam, read_16};
+use memory::{Colors, DISPLAY_WIDTH, PixelFormat, VideoRam, read_16};
 use regs::{BgControl, SCREEN_BLOCK_SIZE};
 use rgb15::Rgb15;
 use std::array;
@@ -102,9 +102,9 @@ impl RegularMap {
     }
 
     // The eight colours that an entry shows in row y of its tile. Empty rows are common, and are seen without looking up a pixel.
-    fn entry_row(self, memory: &Memory, entry: TileMapEntry, y: usize) -> [Rgb15; TILE_SIDE]
+    fn entry_row(self, colors: Colors, entry: TileMapEntry, y: usize) -> [Rgb15; TILE_SIDE]
         requires { Placed self × (y < 8) }
-        ensures { result ≡ tab (λ x. rgb (entry_color memory.now.vram memory.now.palette
+        ensures { result ≡ tab (λ x. rgb (entry_color colors.entry.vram.now colors.entry.palette.now
             self.tileset_base self.format entry.0 x y)) 8 }
     {
         let tile = Tile {
@@ -113,20 +113,20 @@ impl RegularMap {
             bank: self.format.palette_bank(entry.palette_bank()),
         };
         let tile_py = flip(entry.y_flip(), TILE_SIDE, y);
-        if tile.is_empty_row(memory.vram, tile_py) {
+        if tile.is_empty_row(colors.vram, tile_py) {
             return [Rgb15::TRANSPARENT; TILE_SIDE];
         }
-        tile.row::<0>(memory, tile_py, entry.x_flip())
+        tile.row::<0>(colors, tile_py, entry.x_flip())
     }
 
     // The eight colours of row y in the tile that is number `tile` from the left, where the map repeats.
-    fn tile_row(self, memory: &Memory, tile: usize, y: usize) -> [Rgb15; TILE_SIDE]
+    fn tile_row(self, colors: Colors, tile: usize, y: usize) -> [Rgb15; TILE_SIDE]
         requires { Placed self × (tile < 128) × (y < 512) }
-        ensures { result ≡ tab (λ x. rgb (map_pixel memory.now self ((8 * tile + x) % self.width) y)) 8 }
+        ensures { result ≡ tab (λ x. rgb (map_pixel colors.entry self ((8 * tile + x) % self.width) y)) 8 }
     {
         let x = wrap(TILE_SIDE * tile, self.width);
-        let entry = self.entry(memory.vram, x, y);
-        self.entry_row(memory, entry, y % TILE_SIDE)
+        let entry = self.entry(colors.vram, x, y);
+        self.entry_row(colors, entry, y % TILE_SIDE)
     }
 }
 
@@ -142,9 +142,9 @@ pub struct RegularLine {
 impl RegularLine {
     // The 31 tiles that the line goes through, each whole: the line with its offset rounded down to a tile, and eight columns
     // more.
-    fn tiles(self, memory: &Memory) -> [[Rgb15; TILE_SIDE]; LINE_TILES]
+    fn tiles(self, colors: Colors) -> [[Rgb15; TILE_SIDE]; LINE_TILES]
         requires { Scrolled self }
-        ensures { result ≡ tab (λ t. tab (λ x. rgb (regular_color memory.now.vram memory.now.palette
+        ensures { result ≡ tab (λ t. tab (λ x. rgb (regular_color colors.entry.vram.now colors.entry.palette.now
             self.control (self.hofs / 8 * 8) self.vofs (8 * t + x) self.line)) 8) 31 }
     {
         let map = RegularMap::from(self.control);
@@ -153,18 +153,18 @@ impl RegularLine {
         array::from_fn(
             |t: usize| -> [Rgb15; TILE_SIDE]
                 requires { Placed map × (first + t < 128) × (y < 512) }
-                ensures { result ≡ tab (λ x. rgb (map_pixel memory.entry.now map ((8 * (first + t) + x) % map.width) y)) 8 }
-            { map.tile_row(memory, first + t, y) },
+                ensures { result ≡ tab (λ x. rgb (map_pixel colors.entry map ((8 * (first + t) + x) % map.width) y)) 8 }
+            { map.tile_row(colors, first + t, y) },
         )
     }
 
     // The line.
-    pub fn render(self, memory: &Memory) -> [Rgb15; DISPLAY_WIDTH]
+    pub fn render(self, colors: Colors) -> [Rgb15; DISPLAY_WIDTH]
         requires { Scrolled self }
-        ensures { result ≡ tab (λ column. rgb (regular_color memory.now.vram memory.now.palette
+        ensures { result ≡ tab (λ column. rgb (regular_color colors.entry.vram.now colors.entry.palette.now
             self.control self.hofs self.vofs column self.line)) 240 }
     {
-        let tiles = self.tiles(memory);
+        let tiles = self.tiles(colors);
         let columns = tiles.as_flattened();
         let start_tile_x = self.hofs % TILE_SIDE;
         array::from_fn(|column| columns[column + start_tile_x])

@@ -16,12 +16,12 @@ use Rattle.bg_regular.proofs.RegularLine.render.Goals as goal
 pub returns : goal.returns
 returns c =
     let l = c.args.self in
-    let m = c.args.memory.now in
+    let m = c.args.colors in
     let columns : c.as_flattened-columns.result.now
-    ≡ tab (λ x. rgb (regular_color m.vram m.palette l.control (l.hofs / 8 * 8) l.vofs x l.line)) 248
+    ≡ tab (λ x. rgb (regular_color m.vram.now m.palette.now l.control (l.hofs / 8 * 8) l.vofs x l.line)) 248
     = c.as_flattened-columns.ensures.value ∙ ap (flat_map (λ x. x)) c.tiles-tiles.ensures ∙ flat_tiles _ in
     made_tab _ _ _ _ _ (rgb 0) (λ i y q i< k.
     let column : get_or c.as_flattened-columns.result.now (i + l.hofs % 8) (rgb 0)
-    ≡ rgb (regular_color m.vram m.palette l.control l.hofs l.vofs i l.line)
+    ≡ rgb (regular_color m.vram.now m.palette.now l.control l.hofs l.vofs i l.line)
     = regular_column_is _ _ _ _ _ i _ (rgb 0) columns i< in search rules)
     c.from_fn.ensures.items

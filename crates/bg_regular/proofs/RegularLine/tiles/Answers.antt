@@ -11,6 +11,6 @@ returns c =
     let l = c.args.self in
     let map-is = c.from-map.ensures.0 in
     made_tab _ _ _ _ _ [] (λ t y q t< k. (
-      map_tile_is c.args.memory.now l.control l.hofs l.vofs l.line t _ map-is c.wrap-y.ensures.0 (search rules),
+      map_tile_is c.args.colors l.control l.hofs l.vofs l.line t _ map-is c.wrap-y.ensures.0 (search rules),
       search rules,
     )) c.from_fn.ensures.items
