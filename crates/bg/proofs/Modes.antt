@@ -15,7 +15,6 @@ use Rattle.rows.specs.Below.{all_below}
 use Rattle.rows.specs.Tab.{tab}
 use Rattle.rows.proofs.Below.{all_below_at}
 use Rattle.rows.proofs.Tab.{tab_cong, tab_replicate}
-use Rattle.memory.specs.Memory.{Memory}
 use Rattle.regs.specs.Registers.{dispcnt, bgcnt, hofs, vofs}
 use Rattle.regs.specs.Display.{DisplayControlOf, mode}
 use Rattle.regs.specs.declared.DisplayControl.{DisplayControl}
@@ -67,53 +66,52 @@ bg_affine_liftable {references = references} {bg} ranges a-is =
 
 -- ---- a background of each kind: which it can be, and its line as it is made
 
-module _ (m : Memory) {registers : List ℕ} (registers-is : registers ≡ m.registers) (bg : ℕ) {d : DisplayControl} {kind : BgKind}
+module _ (registers : List ℕ) (bg : ℕ) {d : DisplayControl} {kind : BgKind}
     (display-is : DisplayControlOf (dispcnt registers) d) (kind-is : kind ≡ bg_kind d.mode bg) where
-  kind-placed : (k : BgKind) → kind ≡ k → mode (dispcnt m.registers) < 6 → bg < 4 → placed k bg ≡ true
+  kind-placed : (k : BgKind) → kind ≡ k → mode (dispcnt registers) < 6 → bg < 4 → placed k bg ≡ true
   kind-placed k told mode< bg< =
-      rw (sym told, kind-is, display-is.mode_is, registers-is) (placed-bg_kind (mode (dispcnt m.registers)) bg mode< bg<)
+      rw (sym told, kind-is, display-is.mode_is) (placed-bg_kind (mode (dispcnt registers)) bg mode< bg<)
 
-  pub affine-from_two : kind ≡ Affine → mode (dispcnt m.registers) < 6 → bg < 4 → 2 ≤ bg
+  pub affine-from_two : kind ≡ Affine → mode (dispcnt registers) < 6 → bg < 4 → 2 ≤ bg
   affine-from_two told mode< bg< = leb-true 2 bg (kind-placed Affine told mode< bg<)
 
-  pub bitmap-from_two : kind ≡ BitmapKind → mode (dispcnt m.registers) < 6 → bg < 4 → 2 ≤ bg
+  pub bitmap-from_two : kind ≡ BitmapKind → mode (dispcnt registers) < 6 → bg < 4 → 2 ≤ bg
   bitmap-from_two told mode< bg< = let two = eqb-true bg 2 (kind-placed BitmapKind told mode< bg<) in omega arith
 
-  module _ (references : References) (line : ℕ) where
+  module _ (vram palette : List ℕ) (references : References) (line : ℕ) where
     kind_line_is : (k : BgKind) {r : List Rgb15} → kind ≡ k →
-        r ≡ tab (λ column. rgb (kind_color k m references bg column line)) 240 →
-        r ≡ tab (λ column. rgb (background_color m references bg column line)) 240
+        r ≡ tab (λ column. rgb (kind_color k vram palette registers references bg column line)) 240 →
+        r ≡ tab (λ column. rgb (background_color vram palette registers references bg column line)) 240
     unfolding background_color
     kind_line_is k told r-is =
-        let kind_told : bg_kind (mode (dispcnt m.registers)) bg ≡ k = cc (registers-is, display-is.mode_is, kind-is, told) in
+        let kind_told : bg_kind (mode (dispcnt registers)) bg ≡ k = cc (display-is.mode_is, kind-is, told) in
         rw kind_told r-is
 
     pub absent_line_is : kind ≡ Absent →
-        replicate 240 (rgb transparent) ≡ tab (λ column. rgb (background_color m references bg column line)) 240
+        replicate 240 (rgb transparent) ≡ tab (λ column. rgb (background_color vram palette registers references bg column line)) 240
     unfolding kind_color
     absent_line_is told = kind_line_is Absent told (tab_replicate (rgb transparent) 240)
 
     module _ {control : ℕ} (control-is : control ≡ bgcnt registers bg) where
       pub regular_line_is : {h v : ℕ} {r : List Rgb15} → kind ≡ Regular → h ≡ hofs registers bg → v ≡ vofs registers bg →
-          r ≡ tab (λ column. rgb (regular_color m.vram m.palette control h v column line)) 240 →
-          r ≡ tab (λ column. rgb (background_color m references bg column line)) 240
+          r ≡ tab (λ column. rgb (regular_color vram palette control h v column line)) 240 →
+          r ≡ tab (λ column. rgb (background_color vram palette registers references bg column line)) 240
       unfolding kind_color
       regular_line_is told h_is v-is r-is =
           kind_line_is Regular told
-          (r-is ∙ tab_cong _ _ 240 (λ column column<. ap rgb (cc (registers-is, control-is, h_is, v-is))))
+          (r-is ∙ tab_cong _ _ 240 (λ column column<. ap rgb (cc (control-is, h_is, v-is))))
 
       module _ {a : BgAffine} (a-is : BgAffineOf registers references bg a) where
         pub affine_line_is : {p : AffinePicture} {r : List Rgb15} → kind ≡ Affine → AffineOf control p →
             r
             ≡ tab (λ column. rgb (picture_color p.viewport
-            (affine_pixel m.vram m.palette p.screen_block p.char_block p.viewport.w) a column)) 240 →
-            r ≡ tab (λ column. rgb (background_color m references bg column line)) 240
+            (affine_pixel vram palette p.screen_block p.char_block p.viewport.w) a column)) 240 →
+            r ≡ tab (λ column. rgb (background_color vram palette registers references bg column line)) 240
         unfolding kind_color affine_bg_color
         affine_line_is told p-is r-is =
             kind_line_is Affine told
             (r-is
             ∙ tab_cong _ _ 240 (λ column column<. ap rgb (cc (
-              registers-is,
               control-is,
               a-is.x_is,
               a-is.y_is,
@@ -129,15 +127,14 @@ module _ (m : Memory) {registers : List ℕ} (registers-is : registers ≡ m.reg
         pub bitmap_line_is : {p : Bitmap} {r : List Rgb15} → kind ≡ BitmapKind → BitmapOf d control p →
             r
             ≡ tab (λ column. rgb (picture_color p.viewport
-            (bitmap_pixel m.vram m.palette p.mode p.page p.viewport.w) a column)) 240 →
-            r ≡ tab (λ column. rgb (background_color m references bg column line)) 240
+            (bitmap_pixel vram palette p.mode p.page p.viewport.w) a column)) 240 →
+            r ≡ tab (λ column. rgb (background_color vram palette registers references bg column line)) 240
         unfolding kind_color bitmap_color
         bitmap_line_is told p-is r-is =
             let v-is = p-is.viewport_is in
             kind_line_is BitmapKind told
             (r-is
             ∙ tab_cong _ _ 240 (λ column column<. ap rgb (cc (
-              registers-is,
               control-is,
               a-is.x_is,
               a-is.y_is,

@@ -1,7 +1,6 @@
 -- Which backgrounds a mode has, and the colour of each (01, "Backgrounds"; GBATEK, "LCD I/O Display Control"). Assumes nothing.
 use Rattle.std.specs.Prelude.{ℕ, cond, List, [], ◌∷◌, eqb, ℤ, get_or}
 use Rattle.rgb15.specs.Colour.{transparent}
-use Rattle.memory.specs.Memory.{Memory}
 use Rattle.regs.specs.Registers.{dispcnt, bgcnt, hofs, vofs, pa, pc}
 use Rattle.regs.specs.Display.{mode, display_frame_select}
 use Rattle.bg_regular.specs.Regular.{regular_color}
@@ -35,18 +34,18 @@ unfoldable pub bg_kind : ℕ → ℕ → BgKind
 bg_kind mode bg = get_or (get_or bg_kinds mode []) bg Absent
 
 -- The colour of a background of each kind; one that the mode doesn't have is transparent.
-unfoldable pub kind_color : BgKind → Memory → References → ℕ → ℕ → ℕ → ℕ
-kind_color Regular m references bg column line =
-    regular_color m.vram m.palette (bgcnt m.registers bg) (hofs m.registers bg) (vofs m.registers bg) column line
-kind_color Affine m references bg column line =
-    affine_bg_color m.vram m.palette (bgcnt m.registers bg)
-    (reference_x references bg) (reference_y references bg) (pa m.registers bg) (pc m.registers bg) column
-kind_color Bitmap m references bg column line =
-    bitmap_color m.vram m.palette (mode (dispcnt m.registers)) (display_frame_select (dispcnt m.registers)) (bgcnt m.registers bg)
-    (reference_x references bg) (reference_y references bg) (pa m.registers bg) (pc m.registers bg) column
-kind_color Absent m references bg column line = transparent
+unfoldable pub kind_color : BgKind → List ℕ → List ℕ → List ℕ → References → ℕ → ℕ → ℕ → ℕ
+kind_color Regular vram palette registers references bg column line =
+    regular_color vram palette (bgcnt registers bg) (hofs registers bg) (vofs registers bg) column line
+kind_color Affine vram palette registers references bg column line =
+    affine_bg_color vram palette (bgcnt registers bg)
+    (reference_x references bg) (reference_y references bg) (pa registers bg) (pc registers bg) column
+kind_color Bitmap vram palette registers references bg column line =
+    bitmap_color vram palette (mode (dispcnt registers)) (display_frame_select (dispcnt registers)) (bgcnt registers bg)
+    (reference_x references bg) (reference_y references bg) (pa registers bg) (pc registers bg) column
+kind_color Absent vram palette registers references bg column line = transparent
 
 -- The colour of a background at a column and line, by the mode that the registers give.
-unfoldable pub background_color : Memory → References → ℕ → ℕ → ℕ → ℕ
-background_color m references bg column line =
-    kind_color (bg_kind (mode (dispcnt m.registers)) bg) m references bg column line
+unfoldable pub background_color : List ℕ → List ℕ → List ℕ → References → ℕ → ℕ → ℕ → ℕ
+background_color vram palette registers references bg column line =
+    kind_color (bg_kind (mode (dispcnt registers)) bg) vram palette registers references bg column line

@@ -1,7 +1,6 @@
 -- As code has it: what backgrounds and their pixels are drawn from (01, "Backgrounds").
 -- No exported contract reaches this file. Assumes nothing.
 use Rattle.std.specs.Prelude.{ℕ, ◌≤◌, ◌<◌, ◌≡◌, Bool, true, List, ℤ}
-use Rattle.memory.specs.Memory.{Memory}
 use Rattle.signed.specs.Signed.{in_range}
 use Rattle.regs.specs.Registers.{dispcnt, pa, pc}
 use Rattle.regs.specs.Display.{mode}
@@ -20,8 +19,8 @@ use Rattle.bg.specs.declared.bitmap.Bitmap.{Bitmap}
 use Rattle.bg.specs.declared.steps.BgAffine.{BgAffine}
 
 -- What a background's line is drawn from.
-pub record Drawable (m : Memory) (references : References) (bg line : ℕ) : Type 0 where
-  pub mode< : mode (dispcnt m.registers) < 6
+pub record Drawable (registers : List ℕ) (references : References) (bg line : ℕ) : Type 0 where
+  pub mode< : mode (dispcnt registers) < 6
   pub ranges : in_ranges references ≡ true
   pub bg< : bg < 4
   pub line< : line < 160

@@ -6,7 +6,7 @@ ghost use Rattle.bg.specs.Code.{AffineOf, AffineDrawn};
 
 use crate::picture::Picture;
 use bg_points::ViewPort;
-use memory::{Memory, PixelFormat, TILE_SIZE, read_8};
+use memory::{Colors, PixelFormat, TILE_SIZE, read_8};
 use regs::BgControl;
 use rgb15::Rgb15;
 use tiles::{TILE_SIDE, Tile};
@@ -53,14 +53,14 @@ impl Picture for AffinePicture {
 
     ghost viewport = { λ p. p.viewport };
 
-    ghost pixel = { λ p m. affine_pixel m.vram m.palette p.screen_block p.char_block p.viewport.w };
+    ghost pixel = { λ p c. affine_pixel c.vram.now c.palette.now p.screen_block p.char_block p.viewport.w };
 
     fn viewport(self) -> ViewPort {
         self.viewport
     }
 
-    fn pixel(self, memory: &Memory, x: usize, y: usize) -> Rgb15 {
-        let vram = memory.vram;
+    fn pixel(self, colors: Colors, x: usize, y: usize) -> Rgb15 {
+        let vram = colors.vram;
         let side = self.viewport.w as usize;
         let tile_index = read_8(
             vram,
@@ -71,6 +71,6 @@ impl Picture for AffinePicture {
             format: PixelFormat::BPP8,
             bank: 0,
         };
-        tile.color::<0>(memory, x % TILE_SIDE, y % TILE_SIDE)
+        tile.color::<0>(colors, x % TILE_SIDE, y % TILE_SIDE)
     }
 }

@@ -5,7 +5,7 @@ ghost use Rattle.bg.specs.Code.{BitmapViewPort, BitmapOf, BitmapDrawn};
 
 use crate::picture::Picture;
 use bg_points::ViewPort;
-use memory::{DISPLAY_HEIGHT, DISPLAY_WIDTH, Memory, get_palette_color, read_8, read_16};
+use memory::{Colors, DISPLAY_HEIGHT, DISPLAY_WIDTH, get_palette_color, read_8, read_16};
 use regs::{BgControl, DisplayControl};
 use rgb15::Rgb15;
 
@@ -72,18 +72,18 @@ impl Picture for Bitmap {
 
     ghost viewport = { λ p. p.viewport };
 
-    ghost pixel = { λ p m. bitmap_pixel m.vram m.palette p.mode p.page p.viewport.w };
+    ghost pixel = { λ p c. bitmap_pixel c.vram.now c.palette.now p.mode p.page p.viewport.w };
 
     fn viewport(self) -> ViewPort {
         self.viewport
     }
 
     // Words taken whole, or bytes through the palette.
-    fn pixel(self, memory: &Memory, x: usize, y: usize) -> Rgb15 {
-        let vram = memory.vram;
+    fn pixel(self, colors: Colors, x: usize, y: usize) -> Rgb15 {
+        let vram = colors.vram;
         let index = x + self.viewport.w as usize * y;
         if self.mode == 4 {
-            get_palette_color(memory.palette, read_8(vram, self.page + index), 0, 0)
+            get_palette_color(colors.palette, read_8(vram, self.page + index), 0, 0)
         } else {
             Rgb15(read_16(vram, self.page + 2 * index))
         }

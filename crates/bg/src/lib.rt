@@ -18,7 +18,7 @@ use affine::AffinePicture;
 use bg_points::References;
 use bg_regular::RegularLine;
 use bitmap::Bitmap;
-use memory::{DISPLAY_WIDTH, Memory, read_16};
+use memory::{Colors, DISPLAY_WIDTH, Registers, read_16};
 use picture::render_picture;
 use regs::iodev::{BG0CNT, read_dispcnt, read_hofs, read_vofs};
 use rgb15::Rgb15;
@@ -86,15 +86,16 @@ impl BgKind {
 
 // A background's line, by the mode that the registers give; one that the mode doesn't have is transparent.
 pub fn render_bg(
-    memory: &Memory,
+    colors: Colors,
+    registers: &Registers,
     references: References,
     bg: usize,
     line: usize,
 ) -> [Rgb15; DISPLAY_WIDTH]
-    requires { Drawable memory.now references bg line }
-    ensures { result ≡ tab (λ column. rgb (background_color memory.now references bg column line)) 240 }
+    requires { Drawable registers.now references bg line }
+    ensures { result ≡ tab (λ column. rgb (background_color colors.entry.vram.now colors.entry.palette.now
+        registers.now references bg column line)) 240 }
 {
-    let registers = memory.registers;
     let control = read_16(registers, BG0CNT + 2 * bg);
     let dispcnt = read_dispcnt(registers);
     match BgKind::of(dispcnt.mode as usize, bg) {
@@ -105,15 +106,15 @@ pub fn render_bg(
                 vofs: read_vofs(registers, bg),
                 line,
             };
-            regular.render(memory)
+            regular.render(colors)
         }
         BgKind::Affine => {
             let affine = read_bg_affine(registers, references, bg);
-            render_picture(AffinePicture::from(control), memory, affine)
+            render_picture(AffinePicture::from(control), colors, affine)
         }
         BgKind::Bitmap => {
             let affine = read_bg_affine(registers, references, bg);
-            render_picture(Bitmap::new(dispcnt, control), memory, affine)
+            render_picture(Bitmap::new(dispcnt, control), colors, affine)
         }
         BgKind::Absent => [Rgb15::TRANSPARENT; DISPLAY_WIDTH],
     }

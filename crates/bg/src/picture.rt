@@ -1,6 +1,6 @@
 // A picture that a background shows point by point: an affine background's or a bitmap's, which differ in size and pixel.
 ghost use Rattle.std.specs.Prelude.{◌≡◌, ℕ, ◌<◌};
-ghost use Rattle.memory.specs.Memory.{Memory as Bytes};
+ghost use Rattle.memory.specs.declared.Colors.{Colors as Source};
 ghost use Rattle.rgb15.specs.Colour.{rgb};
 ghost use Rattle.rows.specs.Tab.{tab};
 ghost use Rattle.bg_points.specs.Code.{coordinate, Side};
@@ -9,7 +9,7 @@ ghost use Rattle.bg.specs.Code.{Liftable, view_color, picture_color};
 
 use crate::steps::BgAffine;
 use bg_points::{ViewPort, rem_euclid};
-use memory::{DISPLAY_WIDTH, Memory};
+use memory::{Colors, DISPLAY_WIDTH};
 use rgb15::Rgb15;
 use std::array;
 
@@ -19,7 +19,7 @@ pub trait Picture: Copy {
 
     ghost viewport: { Self → View };
 
-    ghost pixel: { Self → Bytes → ℕ → ℕ → ℕ };
+    ghost pixel: { Self → Source → ℕ → ℕ → ℕ };
 
     // Its size, and whether it repeats.
     fn viewport(self) -> ViewPort
@@ -27,15 +27,15 @@ pub trait Picture: Copy {
         ensures { (result ≡ viewport self) × Side result.w × Side result.h };
 
     // The colour at a pixel.
-    fn pixel(self, memory: &Memory, x: usize, y: usize) -> Rgb15
+    fn pixel(self, colors: Colors, x: usize, y: usize) -> Rgb15
         requires { Drawn self × (x < (viewport self).w) × (y < (viewport self).h) }
-        ensures { result.0 ≡ pixel self memory.now x y };
+        ensures { result.0 ≡ pixel self colors.entry x y };
 }
 
 // The colour at a point.
-fn point_color<P: Picture>(picture: P, memory: &Memory, x: u32, y: u32) -> Rgb15
+fn point_color<P: Picture>(picture: P, colors: Colors, x: u32, y: u32) -> Rgb15
     requires { P.Drawn picture }
-    ensures { result.0 ≡ view_color (P.viewport picture) (P.pixel picture memory.now) (coordinate x) (coordinate y) }
+    ensures { result.0 ≡ view_color (P.viewport picture) (P.pixel picture colors.entry) (coordinate x) (coordinate y) }
 {
     let viewport = picture.viewport();
     if !viewport.shows(x, y) {
@@ -43,25 +43,25 @@ fn point_color<P: Picture>(picture: P, memory: &Memory, x: u32, y: u32) -> Rgb15
     }
     let px = rem_euclid(x, viewport.w) as usize;
     let py = rem_euclid(y, viewport.h) as usize;
-    picture.pixel(memory, px, py)
+    picture.pixel(colors, px, py)
 }
 
 // A line: each column shows the point that the reference numbers and the steps give.
 pub fn render_picture<P: Picture>(
     picture: P,
-    memory: &Memory,
+    colors: Colors,
     affine: BgAffine,
 ) -> [Rgb15; DISPLAY_WIDTH]
     requires { P.Drawn picture × Liftable affine }
-    ensures { result ≡ tab (λ column. rgb (picture_color (P.viewport picture) (P.pixel picture memory.now) affine column)) 240 }
+    ensures { result ≡ tab (λ column. rgb (picture_color (P.viewport picture) (P.pixel picture colors.entry) affine column)) 240 }
 {
     array::from_fn(
         |column: usize| -> Rgb15
             requires { P.Drawn picture × Liftable affine × (column < 240) }
-            ensures { result.0 ≡ picture_color (P.viewport picture) (P.pixel picture memory.entry.now) affine column }
+            ensures { result.0 ≡ picture_color (P.viewport picture) (P.pixel picture colors.entry) affine column }
         {
             let (x, y) = affine.point(column);
-            point_color(picture, memory, x, y)
+            point_color(picture, colors, x, y)
         },
     )
 }

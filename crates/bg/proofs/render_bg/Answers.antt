@@ -1,19 +1,12 @@
 -- bg::render_bg meets its contract: each kind's line is that kind's clause of the definition, and the kind is the mode's.
 -- Assumes nothing.
-use mathlib.Core.Path.{◌≡◌, ap}
-use Rattle.memory.specs.Memory.{Memory}
 use Rattle.bg.proofs.Modes.{affine-from_two, bitmap-from_two, bg_affine_liftable}
 use Rattle.bg.proofs.Modes.{regular_line_is, affine_line_is, bitmap_line_is, absent_line_is}
 use Rattle.bg.proofs.render_bg.Goals as goal
 
--- The registers that are read are the memory's.
-abbrev read : {b m : Memory} → b ≡ m → b.registers ≡ m.registers
-read e = ap (λ (m : Memory). m.registers) e
-
 pub read_bg_affine-affine-requires : goal.read_bg_affine-affine-requires
 read_bg_affine-affine-requires c =
-    let m = c.args.memory.now in
-    let from = affine-from_two m (read c.memory.view_is) _ c.read_dispcnt-dispcnt.ensures c.of.ensures c.in-Affine.is in
+    let from = affine-from_two _ _ c.read_dispcnt-dispcnt.ensures c.of.ensures c.in-Affine.is in
     (from c.requires.mode< c.requires.bg<, c.requires.bg<)
 
 pub render_picture-requires : goal.render_picture-requires
@@ -21,8 +14,7 @@ render_picture-requires c = (c.from.ensures.1, bg_affine_liftable c.requires.ran
 
 pub read_bg_affine-affine-requires-in-Bitmap : goal.read_bg_affine-affine-requires-in-Bitmap
 read_bg_affine-affine-requires-in-Bitmap c =
-    let m = c.args.memory.now in
-    let from = bitmap-from_two m (read c.memory.view_is) _ c.read_dispcnt-dispcnt.ensures c.of.ensures c.in-Bitmap.is in
+    let from = bitmap-from_two _ _ c.read_dispcnt-dispcnt.ensures c.of.ensures c.in-Bitmap.is in
     (from c.requires.mode< c.requires.bg<, c.requires.bg<)
 
 pub render_picture-requires-in-Bitmap : goal.render_picture-requires-in-Bitmap
@@ -30,23 +22,19 @@ render_picture-requires-in-Bitmap c = (c.new.ensures.1, bg_affine_liftable c.req
 
 pub returns-in-Regular : goal.returns-in-Regular
 returns-in-Regular c =
-    let m = c.args.memory.now in
-    regular_line_is m (read c.memory.view_is) _ c.read_dispcnt-dispcnt.ensures c.of.ensures _ _ c.read_16-control.ensures
+    regular_line_is _ _ c.read_dispcnt-dispcnt.ensures c.of.ensures _ _ _ _ c.read_16-control.ensures
     c.in-Regular.is c.read_hofs.ensures c.read_vofs.ensures c.render.ensures
 
 pub returns-in-Affine : goal.returns-in-Affine
 returns-in-Affine c =
-    let m = c.args.memory.now in
-    affine_line_is m (read c.memory.view_is) _ c.read_dispcnt-dispcnt.ensures c.of.ensures _ _ c.read_16-control.ensures
+    affine_line_is _ _ c.read_dispcnt-dispcnt.ensures c.of.ensures _ _ _ _ c.read_16-control.ensures
     c.read_bg_affine-affine.ensures c.in-Affine.is c.from.ensures.0 c.render_picture.ensures
 
 pub returns-in-Bitmap : goal.returns-in-Bitmap
 returns-in-Bitmap c =
-    let m = c.args.memory.now in
-    bitmap_line_is m (read c.memory.view_is) _ c.read_dispcnt-dispcnt.ensures c.of.ensures _ _ c.read_16-control.ensures
+    bitmap_line_is _ _ c.read_dispcnt-dispcnt.ensures c.of.ensures _ _ _ _ c.read_16-control.ensures
     c.read_bg_affine-affine-in-Bitmap.ensures c.in-Bitmap.is c.new.ensures.0 c.render_picture-in-Bitmap.ensures
 
 pub returns-in-Absent : goal.returns-in-Absent
 returns-in-Absent c =
-    let m = c.args.memory.now in
-    absent_line_is m (read c.memory.view_is) _ c.read_dispcnt-dispcnt.ensures c.of.ensures _ _ c.in-Absent.is
+    absent_line_is _ _ c.read_dispcnt-dispcnt.ensures c.of.ensures _ _ _ _ c.in-Absent.is

@@ -10,5 +10,5 @@ pub returns : goal.returns
 returns g c =
     let a = c.args in
     let view = g.P.Picture in
-    let color = picture_color (view.viewport a.picture) (view.pixel a.picture a.memory.now) a.affine in
+    let color = picture_color (view.viewport a.picture) (view.pixel a.picture a.colors) a.affine in
     made_tab _ (λ column. rgb (color column)) _ _ 240 (rgb 0) (λ i y q i< k. search rules) c.from_fn.ensures.items
