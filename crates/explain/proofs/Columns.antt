@@ -53,7 +53,8 @@ module _ (r : Request) (entries : List ℕ) (column : ℕ) {d : DisplayControl}
 
 module _ (r : Request) (entries : List ℕ) (column : ℕ) {on : List Bool} (on-is : on ≡ enable_bg (dispcnt r.memory.registers))
     {colors : List Rgb15}
-    (colors-are : colors ≡ tab (λ bg. rgb (color_if_on (get_or on bg false) r.memory r.references bg column r.line)) 4) where
+    (colors-are : colors ≡ tab (λ bg.
+    rgb (color_if_on (get_or on bg false) r.memory.vram r.memory.palette r.memory.registers r.references bg column r.line)) 4) where
   colors_on : (bg : ℕ) → get_or (enable_bg (dispcnt r.memory.registers)) bg false ≡ true
       → (get_or colors bg (rgb 0)).0 ≡ color_of (call_in r) bg column
   unfolding color_if_on

@@ -28,7 +28,7 @@ use explain_obj::column_entry;
 use explain_region::column_region;
 use gpu::bg_line;
 use gpu_judge::{Picture, Request};
-use memory::{DISPLAY_WIDTH, Memory, read_backdrop};
+use memory::{Colors, DISPLAY_WIDTH, Memory, read_backdrop};
 use obj_entries::{Entries, Entry, entry_at};
 use refusals::Refusal;
 use regs::Reading;
@@ -167,15 +167,21 @@ fn explain_column(request: &Request, entries: &Entries, column: usize) -> Reason
     ensures { ReasonAt (call_in request.now) entries.now column result }
 {
     let memory = &request.memory;
+    let lent = Colors {
+        vram: memory.vram,
+        palette: memory.palette,
+    };
+    let registers = memory.registers;
     let references = request.references;
     let y = request.line as usize;
-    let on = read_dispcnt(memory.registers).enable_bg;
+    let on = read_dispcnt(registers).enable_bg;
     let colors = array::from_fn(
         |bg: usize| -> Rgb15
-            requires { Drawable memory.now references bg y × (column < 240) }
-            ensures { result ≡ rgb (color_if_on (get_or on bg false) memory.entry.now references bg column y) }
+            requires { Drawable registers.now references bg y × (column < 240) }
+            ensures { result ≡ rgb (color_if_on (get_or on bg false) lent.entry.vram.now lent.entry.palette.now
+                registers.entry.now references bg column y) }
         {
-            let row = bg_line(memory, references, on[bg], bg, y);
+            let row = bg_line(lent, registers, references, on[bg], bg, y);
             row[column]
         },
     );

@@ -34,15 +34,15 @@ use Rattle.gpu.specs.Code.{color_if_on}
 
 -- ---- the line of a background
 
-module _ (m : Memory) (references : References) (bg line : ℕ) {on : Bool} where
+module _ (vram palette registers : List ℕ) (references : References) (bg line : ℕ) {on : Bool} where
   pub line_on : {r : List Rgb15} → on ≡ true
-      → r ≡ tab (λ column. rgb (background_color m references bg column line)) 240
-      → r ≡ tab (λ column. rgb (color_if_on on m references bg column line)) 240
+      → r ≡ tab (λ column. rgb (background_color vram palette registers references bg column line)) 240
+      → r ≡ tab (λ column. rgb (color_if_on on vram palette registers references bg column line)) 240
   unfolding color_if_on
   line_on is r-is = rw is r-is
 
   pub line_off : on ≡ false
-      → replicate 240 (rgb transparent) ≡ tab (λ column. rgb (color_if_on on m references bg column line)) 240
+      → replicate 240 (rgb transparent) ≡ tab (λ column. rgb (color_if_on on vram palette registers references bg column line)) 240
   unfolding color_if_on
   line_off is = rw is (tab_replicate (rgb transparent) 240)
 
@@ -123,7 +123,8 @@ on_below registers (suc (suc (suc (suc bg)))) on = absurd (false≢true on)
 
 module _ (r : Request) {on : List Bool} (on-is : on ≡ enable_bg (dispcnt r.memory.registers)) {lines : List (List Rgb15)}
     (lines-are : lines
-    ≡ tab (λ bg. tab (λ column. rgb (color_if_on (get_or on bg false) r.memory r.references bg column r.line)) 240) 4) where
+    ≡ tab (λ bg. tab (λ column.
+    rgb (color_if_on (get_or on bg false) r.memory.vram r.memory.palette r.memory.registers r.references bg column r.line)) 240) 4) where
   -- The line of a background that is on, as code draws it by the switches that it read.
   bg_line_on : (column : ℕ) → column < 240 → (bg : ℕ) → is_on r.memory.registers bg ≡ true
       → line_color (get_or lines bg []) column ≡ color_of (call_in r) bg column

@@ -24,7 +24,8 @@ entries_after c entries =
 
 -- The colour of a background at a column.
 abbrev pub color_of : Call → ℕ → ℕ → ℕ
-color_of c bg column = background_color c.memory c.references bg column c.line
+color_of c bg column =
+    background_color c.memory.vram c.memory.palette c.memory.registers c.references bg column c.line
 
 -- The pixel of a column, by the entries as they stand after the sprites.
 unfoldable pub pixel_at : Call → List ℕ → ℕ → ℕ

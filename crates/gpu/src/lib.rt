@@ -16,7 +16,7 @@ ghost use Rattle.gpu.specs.Draw.{given, Draws};
 use bg::render_bg;
 use bg_points::References;
 use gpu_judge::{Picture, Request};
-use memory::{DISPLAY_WIDTH, Memory, Output};
+use memory::{Colors, DISPLAY_WIDTH, Output, Registers};
 use obj::render_objs;
 use obj_entries::Entries;
 use refusals::Refusal;
@@ -31,17 +31,19 @@ const BLANK: u32 = 0xf8f8f8;
 
 // The line of a background if it is on, else a transparent one, which the order passes over.
 pub fn bg_line(
-    memory: &Memory,
+    colors: Colors,
+    registers: &Registers,
     references: References,
     on: bool,
     bg: usize,
     line: usize,
 ) -> [Rgb15; DISPLAY_WIDTH]
-    requires { Drawable memory.now references bg line }
-    ensures { result ≡ tab (λ column. rgb (color_if_on on memory.now references bg column line)) 240 }
+    requires { Drawable registers.now references bg line }
+    ensures { result ≡ tab (λ column. rgb (color_if_on on colors.entry.vram.now colors.entry.palette.now
+        registers.now references bg column line)) 240 }
 {
     if on {
-        render_bg(memory, references, bg, line)
+        render_bg(colors, registers, references, bg, line)
     } else {
         [Rgb15::TRANSPARENT; DISPLAY_WIDTH]
     }
@@ -53,14 +55,20 @@ fn render_line(request: &Request, entries: &Entries, output: &mut Output)
     ensures { output.new ≡ line_after (call_in request.now) entries.now }
 {
     let memory = &request.memory;
+    let colors = Colors {
+        vram: memory.vram,
+        palette: memory.palette,
+    };
+    let registers = memory.registers;
     let references = request.references;
     let y = request.line as usize;
-    let on = read_dispcnt(memory.registers).enable_bg;
+    let on = read_dispcnt(registers).enable_bg;
     let lines = array::from_fn(
         |bg: usize| -> [Rgb15; DISPLAY_WIDTH]
-            requires { Drawable memory.now references bg y }
-            ensures { result ≡ tab (λ column. rgb (color_if_on (get_or on bg false) memory.entry.now references bg column y)) 240 }
-        { bg_line(memory, references, on[bg], bg, y) },
+            requires { Drawable registers.now references bg y }
+            ensures { result ≡ tab (λ column. rgb (color_if_on (get_or on bg false) colors.entry.vram.now
+                colors.entry.palette.now registers.entry.now references bg column y)) 240 }
+        { bg_line(colors, registers, references, on[bg], bg, y) },
     );
     finalize_scanline(output, entries, memory, request.reading, y, &lines);
 }

@@ -4,7 +4,7 @@ use Rattle.gpu.proofs.Lines.{line_on, line_off}
 use Rattle.gpu.proofs.bg_line.Goals as goal
 
 pub returns-then-on : goal.returns-then-on
-returns-then-on c = line_on _ _ _ _ c.if-on.true c.render_bg.ensures
+returns-then-on c = line_on _ _ _ _ _ _ c.if-on.true c.render_bg.ensures
 
 pub returns-else-on : goal.returns-else-on
-returns-else-on c = line_off _ _ _ _ c.if-on.false
+returns-else-on c = line_off _ _ _ _ _ _ c.if-on.false
