@@ -8,6 +8,10 @@ abbrev pub number_in : Option Background → Option ℕ
 number_in None = None
 number_in (Some bg) = Some bg.number
 
+-- The background of a number: one above 3 has none.
+abbrev pub numbered : ℕ → Option ℕ
+numbered number = cond (ltb number 4) (Some number) None
+
 -- A list of backgrounds in four places.
 unfoldable pub places : List ℕ → List (Option ℕ)
 places order = slice_get order 0 ∷ slice_get order 1 ∷ slice_get order 2 ∷ slice_get order 3 ∷ []

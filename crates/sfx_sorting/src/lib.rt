@@ -9,13 +9,15 @@ ghost use Rattle.sfx_sorting.specs.Ordered.{ordered};
 ghost use Rattle.sfx_sorting.specs.Code.{number_in, places, sort_key, sorted_keys, key_place};
 
 mod background;
+mod places;
 
 pub use background::Background;
 use memory::Registers;
+pub use places::NO_BACKGROUND;
 use regs::iodev::{read_bgcnt, read_dispcnt};
 
 // The keys of backgrounds that are on are below this, those of the others from it on.
-const OFF_KEYS: usize = 0x10;
+const OFF_KEYS: usize = 4 * NO_BACKGROUND;
 
 // What a background is sorted by.
 fn sort_key(registers: &Registers, on: bool, bg: usize) -> usize
@@ -48,10 +50,11 @@ fn sort_keys(a: usize, b: usize, c: usize, d: usize) -> [usize; 4]
 fn key_place(key: usize) -> Option<Background>
     ensures { number_in result ≡ key_place key }
 {
-    if key < OFF_KEYS {
-        return Some(Background { number: key % 4 });
-    }
-    None
+    Background::numbered(if key < OFF_KEYS {
+        key % 4
+    } else {
+        NO_BACKGROUND
+    })
 }
 
 // The backgrounds that are on, ordered by priority and number, in four places.
