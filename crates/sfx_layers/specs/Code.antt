@@ -2,7 +2,7 @@
 -- between without branches (01, "What must change shape").
 -- No exported contract reaches this file. Assumes nothing.
 use Rattle.std.specs.Prelude.{ℕ, ◌+◌, ◌*◌, ◌/◌, ◌%◌, ◌^◌, ◌<◌, ◌≡◌, cond}
-use Rattle.std.specs.Prelude.{Bool, false, not, ◌&&◌, List, Option, Some, None, leb, get_or}
+use Rattle.std.specs.Prelude.{Bool, false, not, ◌&&◌, List, [], ◌∷◌, Option, Some, None, leb, get_or}
 use Rattle.bits.specs.Bits.{bit}
 use Rattle.rows.specs.Tab.{tab}
 use Rattle.rgb15.specs.Colour.{rgb, is_transparent}
@@ -15,6 +15,8 @@ use Rattle.regs.specs.declared.reading.Reading.{Reading}
 use Rattle.regs_window.specs.Windows.{permits, permits_objects, permits_effects}
 use Rattle.regs_blend.specs.Layers.{background_layer, targets}
 use Rattle.regs_blend.specs.Blend.{target1, target2, blend_mode}
+use Rattle.regs_blend.specs.declared.BlendMode.{BlendMode}
+use Rattle.regs_blend.specs.declared.BlendMode.TheVariants.{BldNone, BldAlpha, BldWhite, BldBlack}
 use Rattle.regs_blend.specs.declared.layer.RenderLayerKind.{RenderLayerKind}
 use Rattle.regs_blend.specs.declared.layer.RenderLayerKind.TheVariants.{Objects, Backdrop}
 use Rattle.obj_entries.specs.declared.Entry.{Entry}
@@ -33,6 +35,10 @@ abbrev pub as_bit : Bool → ℕ
 as_bit t = cond t 1 0
 
 -- ---- layers
+
+-- The control's effect of a number: 0 none, 1 blend, 2 white, and any other black.
+unfoldable pub mode_numbered : ℕ → BlendMode
+mode_numbered number = get_or (BldNone ∷ BldAlpha ∷ BldWhite ∷ []) number BldBlack
 
 -- The bits of a layer's tag: whether it is a first target, a second target, a semi-transparent object; above, the priority.
 abbrev pub first_bit : ℕ

@@ -1,10 +1,10 @@
 // The layers of a column (gpu/layer.rs), each as two halfwords, which a loop over columns chooses between without branches.
 ghost use Rattle.std.specs.Prelude.{◌≡◌, ◌≤◌, ◌<◌, get_or, None};
-ghost use Rattle.sfx_layers.specs.Code.{as_bit, layer_tag, object_tag, place_tag, LineLayersOf};
+ghost use Rattle.sfx_layers.specs.Code.{mode_numbered, as_bit, layer_tag, object_tag, place_tag, LineLayersOf};
 ghost use Rattle.sfx_layers.specs.Code.{is_seen, put_background, background_pair, put_object, column_pair};
 
-use crate::region::{OBJECTS, is_permitted};
-use memory::{Memory, Registers, read_backdrop};
+use crate::region::{OBJECTS_PART, is_permitted};
+use memory::{PaletteRam, Registers, read_backdrop};
 use obj_entries::Entry;
 use regs::iodev::read_bgcnt;
 use regs_blend::{BlendControl, BlendMode, RenderLayerKind, read_bldcnt};
@@ -21,6 +21,11 @@ pub const SECOND_TARGET: u16 = 0x2;
 pub const SEMI_OBJECT: u16 = 0x4;
 
 const PRIORITY: u16 = 0x8;
+
+// The numbers of two of the control's effects: 0 is none, and from 3 on it is black.
+pub const MODE_ALPHA: u16 = 1;
+
+pub const MODE_WHITE: u16 = 2;
 
 // The top and the bottom layer of a column, the colour and the tag of each. No layer is passed on or chosen whole: the
 // compiler would take its two halfwords for one word, of which a vector holds half as many.
@@ -41,6 +46,19 @@ pub struct LineLayers {
     pub backdrop: u16,
     pub backdrop_tag: u16,
     pub mode: BlendMode,
+}
+
+// The control's effect by its number, where a line's isn't read from a control.
+#[tactic(auto, unfolding(crate::specs::Code::mode_numbered))]
+pub fn mode_numbered(number: u16) -> BlendMode
+    ensures { result ≡ mode_numbered number }
+{
+    match number {
+        0 => BlendMode::BldNone,
+        MODE_ALPHA => BlendMode::BldAlpha,
+        MODE_WHITE => BlendMode::BldWhite,
+        _ => BlendMode::BldBlack,
+    }
 }
 
 // A truth value as a bit.
@@ -81,14 +99,18 @@ fn place_tag(
 }
 
 // A line's layers, for its places.
-pub fn line_layers(memory: &Memory, places: [Option<Background>; 4]) -> LineLayers
-    ensures { LineLayersOf memory.now.palette memory.now.registers places result }
+pub fn line_layers(
+    palette: &PaletteRam,
+    registers: &Registers,
+    places: [Option<Background>; 4],
+) -> LineLayers
+    ensures { LineLayersOf palette.now registers.now places result }
 {
-    let control = read_bldcnt(memory.registers);
+    let control = read_bldcnt(registers);
     LineLayers {
-        places: array::from_fn(|k| place_tag(memory.registers, control, places, k)),
+        places: array::from_fn(|k| place_tag(registers, control, places, k)),
         object: layer_tag(control, RenderLayerKind::Objects, 0),
-        backdrop: read_backdrop(memory.palette).0,
+        backdrop: read_backdrop(palette).0,
         backdrop_tag: layer_tag(control, RenderLayerKind::Backdrop, 4),
         mode: control.mode,
     }
@@ -169,5 +191,5 @@ pub fn column_pair(
     ensures { result ≡ column_pair line region tag object colors }
 {
     let backgrounds = background_pair(line, region, colors);
-    put_object(backgrounds, is_permitted(region, OBJECTS), tag, object)
+    put_object(backgrounds, is_permitted(region, OBJECTS_PART), tag, object)
 }

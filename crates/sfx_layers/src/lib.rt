@@ -6,7 +6,7 @@ mod layer;
 mod region;
 
 pub use layer::{
-    FIRST_TARGET, LayerPair, LineLayers, SECOND_TARGET, SEMI_OBJECT, column_pair, line_layers,
-    object_tag,
+    FIRST_TARGET, LayerPair, LineLayers, MODE_ALPHA, MODE_WHITE, SECOND_TARGET, SEMI_OBJECT,
+    column_pair, line_layers, mode_numbered, object_tag,
 };
-pub use region::{EFFECTS, is_permitted, line_regions};
+pub use region::{EFFECTS, EFFECTS_PART, is_permitted, line_regions};

@@ -15,10 +15,16 @@ use regs_window::WindowFlags;
 use sfx_regions::{RegionWords, WindowType, region_row, window_flags};
 use sfx_sorting::Background;
 
-// The bits of a region's word: 0 to 3 are the backgrounds of the four places, then objects and effects.
-pub(crate) const OBJECTS: u32 = 4;
+// The parts of a region's word, by the number of their bit: 0 to 3 are the backgrounds of the four places, then objects and
+// effects.
+pub(crate) const OBJECTS_PART: u32 = 4;
 
-pub const EFFECTS: u32 = 5;
+pub const EFFECTS_PART: u32 = 5;
+
+// The bits of these two.
+const OBJECTS: u16 = 0x10;
+
+pub const EFFECTS: u16 = 0x20;
 
 // Whether a region's word has a bit.
 pub fn is_permitted(region: u16, part: u32) -> bool
@@ -47,8 +53,8 @@ fn region_word(flags: WindowFlags, objects: bool, places: [Option<Background>; 4
         + 0x2 * place_bit(flags, places, 1)
         + 0x4 * place_bit(flags, places, 2)
         + 0x8 * place_bit(flags, places, 3)
-        + 0x10 * bit_of(flags.obj_enabled() & objects)
-        + 0x20 * bit_of(flags.sfx_enabled())
+        + OBJECTS * bit_of(flags.obj_enabled() & objects)
+        + EFFECTS * bit_of(flags.sfx_enabled())
 }
 
 // What the region of each column permits.
