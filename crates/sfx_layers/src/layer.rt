@@ -48,7 +48,7 @@ pub struct LineLayers {
     pub mode: BlendMode,
 }
 
-// The control's effect by its number, where a line's isn't read from a control.
+// The control's effect of a number, any at all.
 #[tactic(auto, unfolding(crate::specs::Code::mode_numbered))]
 pub fn mode_numbered(number: u16) -> BlendMode
     ensures { result ≡ mode_numbered number }
