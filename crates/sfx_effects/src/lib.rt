@@ -5,6 +5,7 @@
 ghost use Rattle.std.specs.Prelude.{◌≡◌, ◌≤◌};
 ghost use Rattle.regs.specs.Registers.{bldy};
 ghost use Rattle.regs.specs.Reading.{counted};
+ghost use Rattle.sfx_layers.specs.Code.{mode_numbered};
 ghost use Rattle.sfx_effects.specs.Code.{WeightsOf, is_blended, is_faded};
 ghost use Rattle.sfx_effects.specs.Code.{fade_color, fade_weight, pair_color};
 
@@ -15,7 +16,7 @@ use regs::Reading;
 use regs_blend::{BlendMode, read_bldalpha, read_bldy};
 use rgb15::Rgb15;
 use rows::choose;
-use sfx_layers::{FIRST_TARGET, LayerPair, SECOND_TARGET, SEMI_OBJECT};
+use sfx_layers::{FIRST_TARGET, LayerPair, SECOND_TARGET, SEMI_OBJECT, mode_numbered};
 pub use weights::Weights;
 
 // A line's weights, as the reading counts them.
@@ -80,4 +81,16 @@ pub fn do_effect<const BLENDS: bool>(
     let my_weight = choose(blended, weights.eva, 16 - evy);
     let other_weight = choose(blended, weights.evb, evy);
     Rgb15(layers.top).blend_with(Rgb15(other), my_weight, other_weight)
+}
+
+// The same, where the control's effect is a number, any at all.
+pub fn do_effect_by<const BLENDS: bool>(
+    weights: Weights,
+    mode: u16,
+    permitted: bool,
+    layers: LayerPair,
+) -> Rgb15
+    ensures { result.0 ≡ pair_color BLENDS weights (mode_numbered mode) permitted layers }
+{
+    do_effect::<BLENDS>(weights, mode_numbered(mode), permitted, layers)
 }
