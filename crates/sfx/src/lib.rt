@@ -17,7 +17,7 @@ ghost use Rattle.sfx_layers.specs.Code.{line_color, Unmarked, object_tag};
 ghost use Rattle.sfx.specs.Code.{line_in, column_color, is_plain};
 ghost use Rattle.sfx.specs.Pixel.{pixel};
 
-use memory::{DISPLAY_WIDTH, Memory, Output};
+use memory::{DISPLAY_WIDTH, Output, PaletteRam, Registers};
 use obj_entries::{Entries, entry_at};
 use regs::Reading;
 use regs_blend::BlendMode;
@@ -25,7 +25,7 @@ use rgb15::Rgb15;
 use rows::put_word;
 use sfx_effects::{Weights, do_effect, line_weights};
 use sfx_layers::{
-    EFFECTS, LineLayers, SEMI_OBJECT, column_pair, is_permitted, line_layers, line_regions,
+    EFFECTS_PART, LineLayers, SEMI_OBJECT, column_pair, is_permitted, line_layers, line_regions,
     object_tag,
 };
 use sfx_sorting::{Background, sort_backgrounds};
@@ -64,7 +64,12 @@ impl<'a> Rows<'a> {
             self.objects[column],
             colors,
         );
-        do_effect::<BLENDS>(weights, line.mode, is_permitted(region, EFFECTS), layers)
+        do_effect::<BLENDS>(
+            weights,
+            line.mode,
+            is_permitted(region, EFFECTS_PART),
+            layers,
+        )
     }
 
     // Whether no object of the line is semi-transparent: all tags are asked, which is quicker than to stop at the first that is.
@@ -135,24 +140,24 @@ fn write_row(output: &mut Output, colors: &[Rgb15; DISPLAY_WIDTH])
 pub fn finalize_scanline(
     output: &mut Output,
     entries: &Entries,
-    memory: &Memory,
+    palette: &PaletteRam,
+    registers: &Registers,
     reading: Reading,
     line: usize,
     lines: &[[Rgb15; DISPLAY_WIDTH]; 4],
 )
-    requires { counted reading (bldy memory.now.registers) ≤ 16 }
+    requires { counted reading (bldy registers.now) ≤ 16 }
     ensures { output.new
         ≡ row_of word_cells
         (λ column.
-        pixel reading memory.now.registers (backdrop memory.now.palette)
-        (backgrounds memory.now.registers (λ bg. line_color (get_or lines.now bg []) column))
+        pixel reading registers.now (backdrop palette.now)
+        (backgrounds registers.now (λ bg. line_color (get_or lines.now bg []) column))
         (cell_at entry_cells entries.now column)
         column line)
         240 }
 {
-    let registers = memory.registers;
     let places = sort_backgrounds(registers);
-    let layers = line_layers(memory, places);
+    let layers = line_layers(palette, registers, places);
     let rows = Rows {
         regions: &line_regions(entries, registers, reading, line, places),
         tags: &object_tags(entries, layers.object),

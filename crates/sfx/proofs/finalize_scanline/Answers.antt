@@ -12,10 +12,9 @@ compose-colors-requires c = unmarked c.line_layers-layers.ensures
 
 pub returns : goal.returns
 returns c =
-    rw (← c.memory.view_is)
-    (scanline_is _ _ _ _ _ _ _
+    scanline_is _ _ _ _ _ _ _
     c.sort_backgrounds-places.ensures
-    (rw (← c.memory.view_is) at c.line_layers-layers.ensures)
+    c.line_layers-layers.ensures
     c.line_weights.ensures
     (record {
       regions_are = c.line_regions.ensures;
@@ -27,4 +26,4 @@ returns c =
       fourth_is = c.line_in_place-4.ensures;
     })
     c.compose-colors.ensures
-    c.write_row.ensures)
+    c.write_row.ensures
