@@ -70,7 +70,15 @@ fn render_line(request: &Request, entries: &Entries, output: &mut Output)
                 colors.entry.palette.now registers.entry.now references bg column y)) 240 }
         { bg_line(colors, registers, references, on[bg], bg, y) },
     );
-    finalize_scanline(output, entries, memory, request.reading, y, &lines);
+    finalize_scanline(
+        output,
+        entries,
+        memory.palette,
+        registers,
+        request.reading,
+        y,
+        &lines,
+    );
 }
 
 // The sprites put in the entries, if sprites are on.
