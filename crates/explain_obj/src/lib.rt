@@ -11,10 +11,12 @@ ghost use Rattle.obj_sprites.specs.declared.attrs.ObjType.{ObjType};
 ghost use Rattle.obj.specs.Put.{put_pixel, sprite_step, entry_up_to};
 ghost use Rattle.explain_obj.specs.Code.{PlaceOf};
 
-use memory::Memory;
+use memory::{Colors, Memory};
 use obj::pixel;
 use obj_entries::Entry;
-use obj_sprites::{OBJ_COUNT, ObjMode, ObjType, Sprite, View, X_BIAS, is_inside, read_obj_attrs};
+use obj_sprites::{
+    OBJ_COUNT, ObjAttrs, ObjMode, ObjType, Sprite, View, X_BIAS, is_inside, read_obj_attrs,
+};
 use obj_texels::{point_color, turn_line};
 use regs::Reading;
 use rgb15::Rgb15;
@@ -34,48 +36,63 @@ fn box_column(left: usize, width: usize, column: usize) -> Option<usize>
 }
 
 // The colour of an affine sprite at a column.
-fn affine_obj_color(memory: &Memory, sprite: &Sprite, column: usize) -> Rgb15
-    requires { OnLine sprite.now × (column < 240) }
+fn affine_obj_color(memory: &Memory, attrs: ObjAttrs, view: View, column: usize) -> Rgb15
+    requires { OnLine view.reading attrs view.line × (column < 240) }
     ensures { result.0
-        ≡ affine_obj_color sprite.now.view.reading sprite.now.view.mapping memory.now.vram memory.now.palette
-        (matrix memory.now.oam sprite.now.attrs.affine_index) sprite.now.attrs sprite.now.view.line column }
+        ≡ affine_obj_color view.reading view.mapping memory.now.vram memory.now.palette
+        (matrix memory.now.oam attrs.affine_index) attrs view.line column }
 {
-    let attrs = sprite.attrs;
-    match box_column(attrs.left(sprite.view), attrs.box_width(), column) {
-        Some(i) => point_color(memory, sprite, turn_line(memory, sprite), i),
+    match box_column(attrs.left(view.reading), attrs.box_width(), column) {
+        Some(i) => {
+            let turn = turn_line(memory.oam, attrs, view.reading, view.line);
+            let sprite = Sprite::new(attrs, view.reading, view.mapping);
+            let colors = Colors {
+                vram: memory.vram,
+                palette: memory.palette,
+            };
+            point_color(colors, &sprite, turn, i)
+        }
         None => Rgb15::TRANSPARENT,
     }
 }
 
 // The colour of a normal sprite at a column.
-fn normal_color(memory: &Memory, sprite: &Sprite, column: usize) -> Rgb15
-    requires { OnLine sprite.now × (sprite.now.attrs.objtype ≡ ObjType.Normal) × (column < 240) }
+fn normal_color(memory: &Memory, attrs: ObjAttrs, view: View, column: usize) -> Rgb15
+    requires { OnLine view.reading attrs view.line × (attrs.objtype ≡ ObjType.Normal) × (column < 240) }
     ensures { result.0
-        ≡ normal_color sprite.now.view.reading sprite.now.view.mapping memory.now.vram memory.now.palette
-        sprite.now.attrs sprite.now.view.line column }
+        ≡ normal_color view.reading view.mapping memory.now.vram memory.now.palette attrs view.line column }
 {
-    let attrs = sprite.attrs;
-    match box_column(attrs.left(sprite.view), attrs.width, column) {
-        Some(i) => sprite.texel(
-            memory,
-            flip(attrs.h_flip, attrs.width, i),
-            sprite.shown_row(),
-        ),
+    match box_column(attrs.left(view.reading), attrs.width, column) {
+        Some(i) => {
+            let sprite = Sprite::new(attrs, view.reading, view.mapping);
+            let colors = Colors {
+                vram: memory.vram,
+                palette: memory.palette,
+            };
+            sprite.texel(
+                colors,
+                flip(attrs.h_flip, attrs.width, i),
+                sprite.shown_row(view.line),
+            )
+        }
         None => Rgb15::TRANSPARENT,
     }
 }
 
 // The colour of a sprite at a column, by its type.
-fn typed_color(memory: &Memory, sprite: &Sprite, column: usize) -> Rgb15
-    requires { OnLine sprite.now × (column < 240) }
+fn typed_color(memory: &Memory, attrs: ObjAttrs, view: View, column: usize) -> Rgb15
+    requires { OnLine view.reading attrs view.line × (column < 240) }
     ensures { result.0
-        ≡ typed_color sprite.now.attrs.objtype sprite.now.view.reading sprite.now.view.mapping memory.now.vram
-        memory.now.palette memory.now.oam sprite.now.attrs sprite.now.view.line column }
+        ≡ typed_color attrs.objtype view.reading view.mapping memory.now.vram memory.now.palette
+        memory.now.oam attrs view.line column }
 {
-    match sprite.attrs.objtype {
+    let objtype = attrs.objtype;
+    match objtype {
         ObjType::Hidden => Rgb15::TRANSPARENT,
-        ObjType::Normal => normal_color(memory, sprite, column),
-        ObjType::Affine | ObjType::AffineDoubleSize => affine_obj_color(memory, sprite, column),
+        ObjType::Normal => normal_color(memory, attrs, view, column),
+        ObjType::Affine | ObjType::AffineDoubleSize => affine_obj_color(
+            memory, attrs, view, column,
+        ),
     }
 }
 
@@ -96,14 +113,14 @@ fn sprite_step(e: Entry, memory: &Memory, view: View, obj: usize, column: usize)
     requires { (obj < 128) × (column < 240) }
     ensures { result ≡ sprite_step view.reading (source_of memory.now view) view.line obj column e }
 {
-    if !read_obj_attrs(memory.oam, obj).is_near(view) {
+    if !read_obj_attrs(memory.oam, obj).is_near(view.reading, view.line) {
         return e;
     }
     let attrs = read_obj_attrs(memory.oam, obj);
     if !attrs.is_drawn(view) {
         return e;
     }
-    let pixel_color = typed_color(memory, &Sprite::new(attrs, view), column);
+    let pixel_color = typed_color(memory, attrs, view, column);
     put_pixel(e, attrs.objmode, attrs.priority, pixel_color)
 }
 

@@ -15,7 +15,7 @@ ghost use Rattle.obj.specs.Code.{put_row, put_box, Walked, WalkedBack, Closed, P
 mod put;
 mod row;
 
-use memory::{DISPLAY_WIDTH, Memory};
+use memory::{Colors, DISPLAY_WIDTH, Memory};
 use obj_entries::{Entries, entry_at};
 use obj_sprites::{OBJ_COUNT, ObjAttrs, ObjMode, ObjType, Sprite, View, X_BIAS, read_obj_attrs};
 use obj_texels::{Span, affine_row, texel_row, turn_line};
@@ -85,34 +85,39 @@ fn open_columns(entries: &Entries, attrs: ObjAttrs, span: Span) -> Span
     ensures { Walked (PassedOver entries.now attrs) span.start result.end result.start
         × WalkedBack (PassedOver entries.now attrs) result.start span.end result.end }
 {
-    match attrs.objmode {
+    let objmode = attrs.objmode;
+    match objmode {
         ObjMode::Normal | ObjMode::Sfx => trimmed(entries, attrs.priority, span),
         ObjMode::Window | ObjMode::Forbidden => span,
     }
 }
 
 // The pixels of an affine sprite.
-fn render_affine_obj(entries: &mut Entries, memory: &Memory, sprite: &Sprite)
-    requires { OnLine sprite.now }
+fn render_affine_obj(entries: &mut Entries, memory: &Memory, attrs: ObjAttrs, view: View)
+    requires { OnLine view.reading attrs view.line }
     ensures { entries.new
-        ≡ put_row sprite.now.attrs
-        (affine_obj_color sprite.now.view.reading sprite.now.view.mapping memory.now.vram memory.now.palette
-        (matrix memory.now.oam sprite.now.attrs.affine_index) sprite.now.attrs sprite.now.view.line)
+        ≡ put_row attrs
+        (affine_obj_color view.reading view.mapping memory.now.vram memory.now.palette
+        (matrix memory.now.oam attrs.affine_index) attrs view.line)
         entries.old }
 {
-    let attrs = sprite.attrs;
-    let left = attrs.left(sprite.view);
+    let left = attrs.left(view.reading);
     let open = open_columns(entries, attrs, covered(left, attrs.box_width()));
     if open.end <= open.start {
         return;
     }
-    let turn = turn_line(memory, sprite);
+    let turn = turn_line(memory.oam, attrs, view.reading, view.line);
     let columns = Span {
         start: open.start + X_BIAS - left,
         end: open.end + X_BIAS - left,
     };
+    let sprite = Sprite::new(attrs, view.reading, view.mapping);
+    let colors = Colors {
+        vram: memory.vram,
+        palette: memory.palette,
+    };
     let row = BoxRow {
-        colors: affine_row(memory, sprite, turn, columns),
+        colors: affine_row(colors, &sprite, turn, columns),
         left,
         span: open,
     };
@@ -120,22 +125,25 @@ fn render_affine_obj(entries: &mut Entries, memory: &Memory, sprite: &Sprite)
 }
 
 // The pixels of a normal sprite.
-fn render_normal_obj(entries: &mut Entries, memory: &Memory, sprite: &Sprite)
-    requires { OnLine sprite.now × (sprite.now.attrs.objtype ≡ ObjType.Normal) × (sprite.now.attrs.width % 8 ≡ 0) }
+fn render_normal_obj(entries: &mut Entries, memory: &Memory, attrs: ObjAttrs, view: View)
+    requires { OnLine view.reading attrs view.line × (attrs.objtype ≡ ObjType.Normal) × (attrs.width % 8 ≡ 0) }
     ensures { entries.new
-        ≡ put_row sprite.now.attrs
-        (normal_color sprite.now.view.reading sprite.now.view.mapping memory.now.vram memory.now.palette
-        sprite.now.attrs sprite.now.view.line)
+        ≡ put_row attrs
+        (normal_color view.reading view.mapping memory.now.vram memory.now.palette attrs view.line)
         entries.old }
 {
-    let attrs = sprite.attrs;
-    let left = attrs.left(sprite.view);
+    let left = attrs.left(view.reading);
     let open = open_columns(entries, attrs, covered(left, attrs.width));
     if open.end <= open.start {
         return;
     }
+    let sprite = Sprite::new(attrs, view.reading, view.mapping);
+    let colors = Colors {
+        vram: memory.vram,
+        palette: memory.palette,
+    };
     let row = BoxRow {
-        colors: texel_row(memory, sprite, sprite.shown_row()),
+        colors: texel_row(colors, &sprite, sprite.shown_row(view.line)),
         left,
         span: open,
     };
@@ -147,7 +155,8 @@ fn write_obj_pixels(entries: &mut Entries, attrs: ObjAttrs, row: BoxRow)
     ensures { entries.new
         ≡ put_box attrs.objmode attrs.priority row.colors row.left row.span.start row.span.end entries.old }
 {
-    match attrs.objmode {
+    let objmode = attrs.objmode;
+    match objmode {
         ObjMode::Normal => put_pixels::<false>(entries, row, false, attrs.priority),
         ObjMode::Sfx => put_pixels::<false>(entries, row, true, attrs.priority),
         ObjMode::Window => put_pixels::<true>(entries, row, false, attrs.priority),
@@ -156,18 +165,21 @@ fn write_obj_pixels(entries: &mut Entries, attrs: ObjAttrs, row: BoxRow)
 }
 
 // The pixels of a sprite, by its type.
-fn render_obj(entries: &mut Entries, memory: &Memory, sprite: &Sprite)
-    requires { OnLine sprite.now × (sprite.now.attrs.width % 8 ≡ 0) }
+fn render_obj(entries: &mut Entries, memory: &Memory, attrs: ObjAttrs, view: View)
+    requires { OnLine view.reading attrs view.line × (attrs.width % 8 ≡ 0) }
     ensures { entries.new
-        ≡ put_row sprite.now.attrs
-        (typed_color sprite.now.attrs.objtype sprite.now.view.reading sprite.now.view.mapping memory.now.vram
-        memory.now.palette memory.now.oam sprite.now.attrs sprite.now.view.line)
+        ≡ put_row attrs
+        (typed_color attrs.objtype view.reading view.mapping memory.now.vram memory.now.palette memory.now.oam
+        attrs view.line)
         entries.old }
 {
-    match sprite.attrs.objtype {
+    let objtype = attrs.objtype;
+    match objtype {
         ObjType::Hidden => {}
-        ObjType::Normal => render_normal_obj(entries, memory, sprite),
-        ObjType::Affine | ObjType::AffineDoubleSize => render_affine_obj(entries, memory, sprite),
+        ObjType::Normal => render_normal_obj(entries, memory, attrs, view),
+        ObjType::Affine | ObjType::AffineDoubleSize => {
+            render_affine_obj(entries, memory, attrs, view);
+        }
     }
 }
 
@@ -178,10 +190,10 @@ fn put_sprite(entries: &mut Entries, memory: &Memory, view: View, obj: usize)
         ≡ put_row (sprite memory.now.oam obj)
         (sprite_color view.reading (source_of memory.now view) view.line obj) entries.old }
 {
-    if read_obj_attrs(memory.oam, obj).is_near(view) {
+    if read_obj_attrs(memory.oam, obj).is_near(view.reading, view.line) {
         let attrs = read_obj_attrs(memory.oam, obj);
         if attrs.is_drawn(view) {
-            render_obj(entries, memory, &Sprite::new(attrs, view));
+            render_obj(entries, memory, attrs, view);
         }
     }
 }

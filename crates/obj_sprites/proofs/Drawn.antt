@@ -62,18 +62,22 @@ module _ (reading : Reading) (mapping : ObjMapping) (start : ℕ) (s : ObjAttrs)
   drawn-on_line e = (and_both (is_shown s.objtype && is_permitted s.objmode) (on_line reading s line) (drawn_box e)).1
 
   -- A sprite is drawn on no line but those that it is near: no box is higher than 128 lines.
-  pub drawn_far : (a : Attributes) → s ≡ obj_attrs a → is_near reading s line ≡ false → false ≡ drawn reading mapping start s line
+  pub drawn_far : s.height ≤ 64 → is_near reading s line ≡ false → false ≡ drawn reading mapping start s line
   unfolding is_near on_line
-  drawn_far a s-is far = go (drawn reading mapping start s line) refl
+  drawn_far height≤ far = go (drawn reading mapping start s line) refl
     where
       go : (b : Bool) → drawn reading mapping start s line ≡ b → false ≡ b
       go true e =
           let shown = is_shown s.objtype in
           let on = and_both (shown && is_permitted s.objmode) (on_line reading s line) (drawn_box e) in
-          let height≤ : s.height ≤ 64 = omega (arith, ap (λ (s : ObjAttrs). s.height) s-is, height_bound a) in
           let near = within_wider (below reading s line) (boxed_bound s.objtype s.height height≤) on.1 in
           sym far ∙ ap₂ ◌&&◌ (and_both shown (is_permitted s.objmode) on.0).0 near
       go false e = refl
+
+  -- So of one that three halfwords say.
+  pub drawn_far_decoded : (a : Attributes) → s ≡ obj_attrs a → is_near reading s line ≡ false
+      → false ≡ drawn reading mapping start s line
+  drawn_far_decoded a s-is = drawn_far (omega (arith, ap (λ (s : ObjAttrs). s.height) s-is, height_bound a))
 
   module _ (t : ℕ) (top_is : top reading s ≡ sub_ℕ t 96) where
     -- The tests of a sprite that is drawn.

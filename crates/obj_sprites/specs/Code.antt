@@ -1,7 +1,7 @@
 -- As code has it: a sprite's two sides, looked up at once; where its tiles start, worked out once for many pixels; which
 -- sprites are ruled out before their size is looked up; and what is asked (01, "Sprites").
 -- No exported contract reaches this file. Assumes nothing.
-use Rattle.std.specs.Prelude.{ℕ, ◌≤◌, ◌≡◌, Bool, true, ◌&&◌, List}
+use Rattle.std.specs.Prelude.{ℕ, ◌≤◌, ◌<◌, ◌≡◌, Bool, true, ◌&&◌, List}
 use Rattle.signed.specs.Signed.{within}
 use Rattle.memory.specs.Memory.{Memory}
 use Rattle.memory.specs.Palette.{PALRAM_OFS_FG}
@@ -38,15 +38,15 @@ pub record ViewOf (registers : List ℕ) (reading : Reading) (line : ℕ) (v : V
 abbrev pub source_of : Memory → View → Source
 source_of m v = record { vram = m.vram; palette = m.palette; oam = m.oam; mapping = v.mapping; start = v.tiles_start }
 
--- A sprite has the line of its view in its box.
-abbrev pub OnLine : Sprite → Type 0
-OnLine s = on_line s.view.reading s.attrs s.view.line ≡ true
+-- A sprite has a line of the screen in its box.
+abbrev pub OnLine : Reading → ObjAttrs → ℕ → Type 0
+OnLine reading s line = (line < 160) × (on_line reading s line ≡ true)
 
 -- A tile of sprites holds pixel (x, y) of one.
-pub record TileOf (v : View) (s : ObjAttrs) (x y : ℕ) (t : Tile) : Type 0 where
-  pub addr_is : t.addr ≡ tile_at v.reading v.mapping s x y
-  pub format_is : t.format ≡ s.format
-  pub bank_is : t.bank ≡ palette_bank s.format s.bank
+pub record TileOf (s : Sprite) (x y : ℕ) (t : Tile) : Type 0 where
+  pub addr_is : t.addr ≡ tile_at s.reading s.mapping s.attrs x y
+  pub format_is : t.format ≡ s.attrs.format
+  pub bank_is : t.bank ≡ palette_bank s.attrs.format s.attrs.bank
   pub colors : TileColors PALRAM_OFS_FG t
 
 -- Whether a line may be in the sprite's box, by its type and its top alone: no box is higher than 128 lines.

@@ -1,15 +1,15 @@
 // A sprite's attributes, decoded (render/obj.rs: `ObjAttrs`, its enums and its bit fields). R and H part at the tile number
 // alone, and agree wherever else a reading is passed on.
-ghost use Rattle.std.specs.Prelude.{◌≡◌, true, ◌+◌, ◌^◌, ◌≤◌, ◌<◌, pos};
+ghost use Rattle.std.specs.Prelude.{◌≡◌, ◌+◌, ◌^◌, ◌≤◌, ◌<◌, pos};
 ghost use Rattle.std.proofs.Math.IntN.{sub_ℕ};
 ghost use Rattle.signed.specs.Signed.{within};
 ghost use Rattle.bits.specs.Bits.{bits};
 ghost use Rattle.regs.specs.Background.{tile_format};
 ghost use Rattle.obj_sprites.specs.Attrs.{obj_mode, obj_type, obj_attrs};
-ghost use Rattle.obj_sprites.specs.Place.{boxed, box_width, box_height, left, top, below, on_line};
+ghost use Rattle.obj_sprites.specs.Place.{boxed, box_width, box_height, left, top, below};
 ghost use Rattle.obj_sprites.specs.Tiles.{ignores_lowest_bit, tile_number, tile_base, tile_row};
 ghost use Rattle.obj_sprites.specs.Sprite.{is_shown, is_permitted, drawn};
-ghost use Rattle.obj_sprites.specs.Code.{SizeOf, is_near};
+ghost use Rattle.obj_sprites.specs.Code.{SizeOf, OnLine, is_near};
 
 use crate::View;
 use memory::{PixelFormat, TILE_SIZE};
@@ -208,15 +208,15 @@ impl ObjAttrs {
     }
 
     // The column of the box's left edge, plus 272.
-    pub fn left(self, view: View) -> usize
-        ensures { (left view.reading self ≡ sub_ℕ result 272) × (result ≤ 511) }
+    pub fn left(self, reading: Reading) -> usize
+        ensures { (left reading self ≡ sub_ℕ result 272) × (result ≤ 511) }
     {
         (self.x + X_BIAS) % 512
     }
 
     // The line of the box's top, plus 96.
-    pub(crate) fn top(self, view: View) -> usize
-        ensures { (top view.reading self ≡ sub_ℕ result 96) × (result ≤ 255) }
+    pub(crate) fn top(self, reading: Reading) -> usize
+        ensures { (top reading self ≡ sub_ℕ result 96) × (result ≤ 255) }
     {
         (self.y + Y_BIAS) % 256
     }
@@ -236,24 +236,25 @@ impl ObjAttrs {
     }
 
     // The row of the box that a line is.
-    pub fn row(self, view: View) -> usize
-        requires { on_line view.reading self view.line ≡ true }
-        ensures { (below view.reading self view.line ≡ pos result) × (result < box_height self) }
+    pub fn row(self, reading: Reading, line: usize) -> usize
+        requires { OnLine reading self line }
+        ensures { (below reading self line ≡ pos result) × (result < box_height self) }
     {
-        view.line + Y_BIAS - self.top(view)
+        line + Y_BIAS - self.top(reading)
     }
 
     // Whether the lowest bit of the tile number is ignored.
     #[tactic(auto, unfolding(crate::specs::Tiles::ignores_lowest_bit))]
-    fn ignores_lowest_bit(self, view: View) -> bool
-        ensures { result ≡ ignores_lowest_bit view.reading view.mapping self.format }
+    fn ignores_lowest_bit(self, reading: Reading, mapping: ObjMapping) -> bool
+        ensures { result ≡ ignores_lowest_bit reading mapping self.format }
     {
-        match view.mapping {
+        match mapping {
             ObjMapping::OneDimension => false,
             ObjMapping::TwoDimension => {
-                match self.format {
+                let format = self.format;
+                match format {
                     PixelFormat::BPP4 => false,
-                    PixelFormat::BPP8 => match view.reading {
+                    PixelFormat::BPP8 => match reading {
                         Reading::R => false,
                         Reading::H => true,
                     },
@@ -264,10 +265,10 @@ impl ObjAttrs {
 
     // The tile number as the reading counts it.
     #[tactic(auto, unfolding(crate::specs::Tiles::tile_number))]
-    fn tile_number(self, view: View) -> usize
-        ensures { (result ≡ tile_number view.reading view.mapping self) × (result ≤ 1023) }
+    fn tile_number(self, reading: Reading, mapping: ObjMapping) -> usize
+        ensures { (result ≡ tile_number reading mapping self) × (result ≤ 1023) }
     {
-        if self.ignores_lowest_bit(view) {
+        if self.ignores_lowest_bit(reading, mapping) {
             2 * (self.tile / 2)
         } else {
             self.tile
@@ -276,21 +277,22 @@ impl ObjAttrs {
 
     // Where the sprite's tiles start.
     #[tactic(auto, unfolding(crate::specs::Tiles::tile_base))]
-    pub fn tile_base(self, view: View) -> usize
-        ensures { (result ≡ tile_base view.reading view.mapping self) × (result ≤ 98272) }
+    pub fn tile_base(self, reading: Reading, mapping: ObjMapping) -> usize
+        ensures { (result ≡ tile_base reading mapping self) × (result ≤ 98272) }
     {
-        OVRAM + TILE_SIZE * self.tile_number(view)
+        OVRAM + TILE_SIZE * self.tile_number(reading, mapping)
     }
 
     // How many tiles further the next row of tiles is.
     #[tactic(auto, unfolding(crate::specs::Tiles::tile_row))]
-    pub(crate) fn tile_array_width(self, view: View) -> usize
-        ensures { (result ≡ tile_row view.mapping self.format self.width) × (result ≤ 32) }
+    pub(crate) fn tile_array_width(self, mapping: ObjMapping) -> usize
+        ensures { (result ≡ tile_row mapping self.format self.width) × (result ≤ 32) }
     {
-        match view.mapping {
+        match mapping {
             ObjMapping::OneDimension => self.width / 8,
             ObjMapping::TwoDimension => {
-                match self.format {
+                let format = self.format;
+                match format {
                     PixelFormat::BPP8 => 16,
                     PixelFormat::BPP4 => 32,
                 }
@@ -301,10 +303,11 @@ impl ObjAttrs {
     // Whether a line may be in the sprite's box, by its type and its top. It is asked before a sprite is read with its size:
     // a constant table is built anew wherever it is read.
     #[tactic(auto, using(crate::proofs::Drawn::near_is))]
-    pub fn is_near(self, view: View) -> bool
-        ensures { result ≡ is_near view.reading self view.line }
+    pub fn is_near(self, reading: Reading, line: usize) -> bool
+        requires { line < 160 }
+        ensures { result ≡ is_near reading self line }
     {
-        self.objtype.is_shown() & is_inside(view.line + Y_BIAS, self.top(view), BOX_MAX)
+        self.objtype.is_shown() & is_inside(line + Y_BIAS, self.top(reading), BOX_MAX)
     }
 
     // Whether the sprite is drawn on a line. Sprite tiles start at an even number, so the lowest bit of the sprite's decides
@@ -315,7 +318,11 @@ impl ObjAttrs {
     {
         let objtype = self.objtype;
         let objmode = self.objmode;
-        let on_line = is_inside(view.line + Y_BIAS, self.top(view), self.box_height());
+        let on_line = is_inside(
+            view.line + Y_BIAS,
+            self.top(view.reading),
+            self.box_height(),
+        );
         let has_tiles = view.tiles_start <= OVRAM + TILE_SIZE * self.tile;
         objtype.is_shown() & objmode.is_permitted() & on_line & has_tiles
     }

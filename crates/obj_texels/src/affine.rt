@@ -10,8 +10,9 @@ ghost use Rattle.obj_texels.specs.Code.{MatrixOf, StartOf, TurnOf, point_at, box
 ghost use Rattle.obj_texels.specs.Code.{StartRanges, PointRanges};
 
 use crate::{Span, Turn};
-use memory::{Memory, Oam, read_16};
-use obj_sprites::{ATTRS_SIZE, BOX_MAX, Sprite, is_inside};
+use memory::{Colors, Oam, read_16};
+use obj_sprites::{ATTRS_SIZE, BOX_MAX, ObjAttrs, Sprite, is_inside};
+use regs::Reading;
 use rgb15::Rgb15;
 use signed::{HALF_BIAS, lift_half};
 
@@ -67,16 +68,15 @@ fn turn_start(p: usize, q: usize, half_width: usize, half_height: usize, row: us
     added - taken
 }
 
-pub fn turn_line(memory: &Memory, sprite: &Sprite) -> Turn
-    requires { OnLine sprite.now }
-    ensures { TurnOf (matrix memory.now.oam sprite.now.attrs.affine_index) sprite.now.attrs
-        (below sprite.now.view.reading sprite.now.attrs sprite.now.view.line -ℤ pos (box_height sprite.now.attrs / 2)) result }
+pub fn turn_line(oam: &Oam, attrs: ObjAttrs, reading: Reading, line: usize) -> Turn
+    requires { OnLine reading attrs line }
+    ensures { TurnOf (matrix oam.now attrs.affine_index) attrs
+        (below reading attrs line -ℤ pos (box_height attrs / 2)) result }
 {
-    let attrs = sprite.attrs;
-    let matrix = get_affine_matrix(memory.oam, attrs.affine_index);
+    let matrix = get_affine_matrix(oam, attrs.affine_index);
     let half_width = attrs.box_width() / 2;
     let half_height = attrs.box_height() / 2;
-    let row = attrs.row(sprite.view);
+    let row = attrs.row(reading, line);
     Turn {
         x: turn_start(matrix.pa, matrix.pb, half_width, half_height, row),
         y: turn_start(matrix.pc, matrix.pd, half_width, half_height, row),
@@ -102,10 +102,10 @@ fn point_at(start: usize, p: usize, i: usize, side: usize) -> usize
 }
 
 // The colour of column i of an affine sprite's box: nothing is read where its point is outside.
-pub fn point_color(memory: &Memory, sprite: &Sprite, turn: Turn, i: usize) -> Rgb15
+pub fn point_color(colors: Colors, sprite: &Sprite, turn: Turn, i: usize) -> Rgb15
     requires { i ≤ 127 }
-    ensures { result.0 ≡ box_point_color sprite.now.view.reading sprite.now.view.mapping memory.now.vram
-        memory.now.palette sprite.now.attrs turn i }
+    ensures { result.0 ≡ box_point_color sprite.now.reading sprite.now.mapping colors.entry.vram.now
+        colors.entry.palette.now sprite.now.attrs turn i }
 {
     let width = sprite.attrs.width;
     let height = sprite.attrs.height;
@@ -114,21 +114,21 @@ pub fn point_color(memory: &Memory, sprite: &Sprite, turn: Turn, i: usize) -> Rg
     if is_inside(x, OBJ_POINT_BIAS, width) & is_inside(y, OBJ_POINT_BIAS, height) {
         let sprite_x = x - OBJ_POINT_BIAS;
         let sprite_y = y - OBJ_POINT_BIAS;
-        sprite.texel(memory, sprite_x, sprite_y)
+        sprite.texel(colors, sprite_x, sprite_y)
     } else {
         Rgb15::TRANSPARENT
     }
 }
 
 // The colours of an affine sprite's box on a line, for the columns of a span; the others are transparent.
-pub fn affine_row(memory: &Memory, sprite: &Sprite, turn: Turn, span: Span) -> [Rgb15; BOX_MAX]
+pub fn affine_row(colors: Colors, sprite: &Sprite, turn: Turn, span: Span) -> [Rgb15; BOX_MAX]
     requires { span.end ≤ 128 }
-    ensures { result ≡ tab (λ i. rgb (affine_texel sprite.now.view.reading sprite.now.view.mapping memory.now.vram
-        memory.now.palette sprite.now.attrs turn span.start span.end i)) 128 }
+    ensures { result ≡ tab (λ i. rgb (affine_texel sprite.now.reading sprite.now.mapping colors.entry.vram.now
+        colors.entry.palette.now sprite.now.attrs turn span.start span.end i)) 128 }
 {
     let mut row = [Rgb15::TRANSPARENT; BOX_MAX];
     for i in span.start..span.end {
-        row[i] = point_color(memory, sprite, turn, i);
+        row[i] = point_color(colors, sprite, turn, i);
     }
     row
 }

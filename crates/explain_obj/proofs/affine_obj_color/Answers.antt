@@ -3,6 +3,8 @@
 use native.Mathlib.Omega.{arith}
 use mathlib.Core.Path.{refl, sym, ap, ◌∙◌}
 use Prim.Native.Nat.{◌+◌, ◌-◌, min}
+use Rattle.memory.specs.Memory.{Memory}
+use Rattle.obj_sprites.specs.Oam.{matrix}
 use Rattle.obj_texels.specs.Code.{box_point_color}
 use Rattle.obj_texels.proofs.Colors.{affine_obj_color-inside, affine_obj_color_outside}
 use Rattle.explain_obj.proofs.affine_obj_color.Goals as goal
@@ -13,11 +15,14 @@ point_color-requires c = omega (arith, c.box_column.ensures.some _ c.in-Some.is,
 pub returns-in-Some : goal.returns-in-Some
 returns-in-Some c =
     let place = c.box_column.ensures.some _ c.in-Some.is in
-    let s = c.args.sprite.now in
-    let m = c.args.memory.now in
-    c.point_color.ensures
-    ∙ ap (box_point_color s.view.reading s.view.mapping m.vram m.palette s.attrs c.turn_line.result) place.2
-    ∙ affine_obj_color-inside _ _ _ _ _ _ _ c.left.ensures.0 _ _ c.turn_line.ensures _ (omega (arith, c.box_width.ensures))
+    let at = c.args in
+    let m = at.memory.now in
+    let turn = c.turn_line-turn in
+    let sprite = c.new-sprite.ensures in
+    let matrix_is = ap (λ (m : Memory). matrix m.oam at.attrs.affine_index) c.memory.view_is in
+    rw (sym sprite.0, sym sprite.1, sym sprite.2, sym c.memory.view_is) c.point_color.ensures
+    ∙ ap (box_point_color at.view.reading at.view.mapping m.vram m.palette at.attrs turn.result) place.2
+    ∙ affine_obj_color-inside _ _ _ _ _ _ _ c.left.ensures.0 _ turn.result (rw (sym matrix_is) turn.ensures) _ (omega (arith, c.box_width.ensures))
     place.0 (omega (arith, place.1, c.box_width.ensures))
 
 pub returns-in-None : goal.returns-in-None

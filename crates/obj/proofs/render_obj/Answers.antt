@@ -1,25 +1,25 @@
 -- obj::render_obj meets its contract: each arm is the clause of typed_color for its type.
 -- Assumes nothing.
 use mathlib.Core.Path.{refl, ap}
-use Rattle.obj_sprites.specs.declared.sprite.Sprite.{Sprite}
+use Rattle.obj_sprites.specs.declared.attrs.ObjAttrs.{ObjAttrs}
 use Rattle.obj.proofs.Pixels.{put_row_none}
 use Rattle.obj.proofs.Steps.{typed_color_hidden, typed_color_normal, typed_color_affine}
 use Rattle.obj.proofs.render_obj.Goals as goal
 
 pub returns-in-Hidden : goal.returns-in-Hidden
 returns-in-Hidden c =
-    let type_is = ap (λ (s : Sprite). s.attrs.objtype) c.sprite.view_is in
-    rw (typed_color_hidden _ _ _ _ _ c.args.sprite.now.attrs _ type_is c.in-Hidden.is)
-    (put_row_none c.args.sprite.now.attrs _ _ c.fits-entries (λ k k<. refl))
+    let type_is = ap (λ (s : ObjAttrs). s.objtype) c.attrs.view_is in
+    rw (typed_color_hidden _ _ _ _ _ c.args.attrs _ type_is c.in-Hidden.is)
+    (put_row_none c.args.attrs _ _ c.fits-entries (λ k k<. refl))
 
 pub returns-in-Normal : goal.returns-in-Normal
 returns-in-Normal c =
-    let type_is = ap (λ (s : Sprite). s.attrs.objtype) c.sprite.view_is in
-    rw (typed_color_normal _ _ _ _ _ c.args.sprite.now.attrs _ type_is c.in-Normal.is)
+    let type_is = ap (λ (s : ObjAttrs). s.objtype) c.attrs.view_is in
+    rw (typed_color_normal _ _ _ _ _ c.args.attrs _ type_is c.in-Normal.is)
     c.render_normal_obj.ensures
 
 pub returns-in-Affine : goal.returns-in-Affine
 returns-in-Affine c =
-    let type_is = ap (λ (s : Sprite). s.attrs.objtype) c.sprite.view_is in
-    rw (typed_color_affine _ _ _ _ _ c.args.sprite.now.attrs _ type_is c.in-Affine.is)
+    let type_is = ap (λ (s : ObjAttrs). s.objtype) c.attrs.view_is in
+    rw (typed_color_affine _ _ _ _ _ c.args.attrs _ type_is c.in-Affine.is)
     c.render_affine_obj.ensures

@@ -10,5 +10,5 @@ invariant-loop-i l =
     MappedPart
     (λ i _.
     let s = l.fn.sprite in
-    rgb (box_point_color s.view.reading s.view.mapping l.memory.vram l.memory.palette s.attrs l.turn i)) 128
+    rgb (box_point_color s.reading s.mapping l.colors.vram.now l.colors.palette.now s.attrs l.turn i)) 128
     l.fn.span.start l.fn.span.end (rgb 0) l.initial.row l.i l.row

@@ -16,7 +16,7 @@ bounds : (c : goal.Then-is_inside)
 bounds c =
     let at = c.args in
     let s = at.sprite.now in
-    color_at_bounds s.view.reading s.view.mapping at.memory.now.vram at.memory.now.palette s.attrs _ _ _
+    color_at_bounds s.reading s.mapping at.colors.vram.now at.colors.palette.now s.attrs _ _ _
     (ap (λ (s : Sprite). s.attrs.width) c.sprite.view_is) (ap (λ (s : Sprite). s.attrs.height) c.sprite.view_is)
     c.is_inside.ensures c.is_inside-2.ensures c.if-is_inside.true
 

@@ -3,7 +3,6 @@
 use Prim.Native.Nat.{◌/◌}
 use mathlib.Core.Path.{sym, ap, ap₂}
 use lib.IntN.{pos, ◌-ℤ◌}
-use Rattle.memory.specs.Memory.{Memory}
 use Rattle.obj_sprites.specs.Oam.{matrix}
 use Rattle.obj_sprites.specs.declared.attrs.ObjAttrs.{ObjAttrs}
 use Rattle.obj_texels.proofs.Turns.{turn_of_is}
@@ -12,8 +11,7 @@ use Rattle.obj_texels.proofs.affine.turn_line.Goals as goal
 pub returns : goal.returns
 returns c =
     let m = c.get_affine_matrix-matrix.ensures in
-    let matrix_is =
-    ap₂ matrix (ap (λ (m : Memory). m.oam) c.memory.view_is) (ap (λ (s : ObjAttrs). s.affine_index) c.attrs.view_is) in
+    let matrix_is = ap (λ (s : ObjAttrs). matrix c.args.oam.now s.affine_index) c.attrs.view_is in
     rw (sym matrix_is)
     (turn_of_is _ _ _ _ _ _ _ _ m.pa_is m.pb_is m.pc_is m.pd_is c.box_width-half_width.ensures.0
     (ap₂ (λ z h. z -ℤ pos (h / 2)) c.row-row.ensures.0 (sym c.box_height-half_height.ensures.0))

@@ -8,5 +8,5 @@ use Rattle.obj_texels.proofs.normal.texel_row.Given as goal
 abbrev pub invariant-loop-t : goal.invariant-loop-t
 invariant-loop-t l =
     let s = l.fn.sprite in
-    TilesSet (λ x. rgb (row_texel s.view.reading s.view.mapping l.memory.vram l.memory.palette s.attrs l.y x)) 128 (rgb 0)
+    TilesSet (λ x. rgb (row_texel s.reading s.mapping l.colors.vram.now l.colors.palette.now s.attrs l.y x)) 128 (rgb 0)
     l.initial.row l.t l.row

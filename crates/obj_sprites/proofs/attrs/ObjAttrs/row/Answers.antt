@@ -9,8 +9,8 @@ use Rattle.obj_sprites.proofs.attrs.ObjAttrs.row.Goals as goal
 
 bounds : (c : goal.After-top)
     → let at = c.args in
-    (c.top.result ≤ at.view.line + 96) × (at.view.line + 96 < c.top.result + box_height at.self)
-bounds c = on_line_bounds _ _ _ c.top.ensures.0 _ c.requires
+    (c.top.result ≤ at.line + 96) × (at.line + 96 < c.top.result + box_height at.self)
+bounds c = on_line_bounds _ _ _ c.top.ensures.0 _ c.requires.1
 
 pub overflow_sub-result : goal.overflow_sub-result
 overflow_sub-result c = omega (arith, bounds c)
