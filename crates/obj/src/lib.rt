@@ -17,11 +17,14 @@ mod row;
 
 use memory::{Colors, DISPLAY_WIDTH, Memory};
 use obj_entries::{Entries, entry_at};
-use obj_sprites::{OBJ_COUNT, ObjAttrs, ObjMode, ObjType, Sprite, View, X_BIAS, read_obj_attrs};
+use obj_sprites::{
+    BOX_MAX, OBJ_COUNT, ObjAttrs, ObjMode, ObjType, Sprite, View, X_BIAS, read_obj_attrs,
+};
 use obj_texels::{Span, affine_row, texel_row, turn_line};
 use put::put_pixels;
 pub use put::{Put, pixel, shown_by, windowed};
 use regs::Reading;
+use rgb15::Rgb15;
 pub use row::BoxRow;
 
 // The columns of the screen that a box covers, by its left edge plus 272 and its width.
@@ -116,12 +119,8 @@ fn render_affine_obj(entries: &mut Entries, memory: &Memory, attrs: ObjAttrs, vi
         vram: memory.vram,
         palette: memory.palette,
     };
-    let row = BoxRow {
-        colors: affine_row(colors, &sprite, turn, columns),
-        left,
-        span: open,
-    };
-    write_obj_pixels(entries, attrs, row);
+    let row = affine_row(colors, &sprite, turn, columns);
+    write_obj_pixels(entries, attrs, row, left, open);
 }
 
 // The pixels of a normal sprite.
@@ -142,19 +141,24 @@ fn render_normal_obj(entries: &mut Entries, memory: &Memory, attrs: ObjAttrs, vi
         vram: memory.vram,
         palette: memory.palette,
     };
-    let row = BoxRow {
-        colors: texel_row(colors, &sprite, sprite.shown_row(view.line)),
-        left,
-        span: open,
-    };
-    write_obj_pixels(entries, attrs, row);
+    let row = texel_row(colors, &sprite, sprite.shown_row(view.line));
+    write_obj_pixels(entries, attrs, row, left, open);
 }
 
-// A sprite's colours put in a box's columns, by its mode.
-fn write_obj_pixels(entries: &mut Entries, attrs: ObjAttrs, row: BoxRow)
+// A sprite's colours put in a box's columns, by its mode. The box's row is made here: where a function returns before, a local
+// struct of its size is cleared for nothing.
+fn write_obj_pixels(
+    entries: &mut Entries,
+    attrs: ObjAttrs,
+    colors: [Rgb15; BOX_MAX],
+    left: usize,
+    span: Span,
+)
+    requires { (span.end ≤ 240) × (left ≤ span.start + 272) × (span.end + 272 ≤ left + 128) }
     ensures { entries.new
-        ≡ put_box attrs.objmode attrs.priority row.colors row.left row.span.start row.span.end entries.old }
+        ≡ put_box attrs.objmode attrs.priority colors left span.start span.end entries.old }
 {
+    let row = BoxRow { colors, left, span };
     let objmode = attrs.objmode;
     match objmode {
         ObjMode::Normal => put_pixels::<false>(entries, row, false, attrs.priority),

@@ -28,18 +28,18 @@ returns c =
     let span = c.open_columns-open in
     let turn = c.turn_line-turn in
     let sprite = c.new-sprite.ensures in
-    let colors-are : c.affine_row.result
+    let colors-are : c.affine_row-row.result
     ≡ tab
     (λ i. rgb (affine_texel at.view.reading at.view.mapping m.vram m.palette at.attrs turn.result
     (span.result.start + 272 - left.result) (span.result.end + 272 - left.result) i)) 128
-    = rw (sym sprite.0, sym sprite.1, sym sprite.2, sym c.memory.view_is) c.affine_row.ensures in
+    = rw (sym sprite.0, sym sprite.1, sym sprite.2, sym c.memory.view_is) c.affine_row-row.ensures in
     let matrix_is = ap (λ (m : Memory). matrix m.oam at.attrs.affine_index) c.memory.view_is in
     let width = c.box_width.ensures in
     let end_is = c.covered.ensures.1 ∙ ap (λ w. min 240 (left.result + w - 272)) width.0 in
     put_row_open c.args.attrs _ _
     (affine_obj_color_outside _ _ _ _ _ _ _ left.ensures.0 _ c.covered.ensures.0 end_is)
     span.ensures.0 span.ensures.1
-    c.affine_row.result left.result c.told-entries c.write_obj_pixels.ensures
+    c.affine_row-row.result left.result c.told-entries c.write_obj_pixels.ensures
     (λ k from to.
     affine_obj_color-row _ _ _ _ _ _ _ _ left.ensures.0 _ (rw (sym matrix_is) turn.ensures) (omega (arith, width)) _ _ k _
     colors-are

@@ -25,10 +25,10 @@ returns c =
     let at = c.args in
     let m = at.memory.now in
     let sprite = c.new-sprite.ensures in
-    let colors-are : c.texel_row.result
+    let colors-are : c.texel_row-row.result
     ≡ tab
     (λ x. rgb (row_texel at.view.reading at.view.mapping m.vram m.palette at.attrs c.shown_row.result x)) 128
-    = rw (sym sprite.0, sym sprite.1, sym sprite.2, sym c.memory.view_is) c.texel_row.ensures in
+    = rw (sym sprite.0, sym sprite.1, sym sprite.2, sym c.memory.view_is) c.texel_row-row.ensures in
     let left = c.left-left in
     let span = c.open_columns-open in
     let decoded = subst Decoded c.attrs.view_is c.attrs.invariant in
@@ -36,7 +36,7 @@ returns c =
     put_row_open c.args.attrs _ _
     (normal_color_outside _ _ _ _ _ _ _ left.ensures.0 c.covered.ensures.0 end_is)
     span.ensures.0 span.ensures.1
-    c.texel_row.result left.result c.told-entries c.write_obj_pixels.ensures
+    c.texel_row-row.result left.result c.told-entries c.write_obj_pixels.ensures
     (λ k from to.
     normal_color-row _ _ _ _ _ _ _ left.ensures.0 decoded.width≤ k _ {y = c.shown_row.result}
     (rw (sym sprite.0, sym sprite.1) c.shown_row.ensures.0) colors-are
