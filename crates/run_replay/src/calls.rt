@@ -2,11 +2,13 @@
 
 use crate::compare::{Answer, Fault, compare, compare_fields};
 use crate::list::{
-    Buffer, Call, Head, MEMORY_ROOM, REFERENCES_ROOM, ROW_ROOM, Word, lent, lent_mut, split,
+    Buffer, Call, Head, MEMORY_ROOM, REFERENCES_ROOM, ROW_ROOM, Word, lent, lent_mut, read_whole,
+    split,
 };
 use ashlarkin::{ashlarkin_draw, ashlarkin_explain, ashlarkin_reset, ashlarkin_step};
 use explain::Reason;
 use std::array;
+use std::io;
 use std::io::Read;
 
 // A reason's fields behind its number, and how many bytes the list has of them.
@@ -72,16 +74,17 @@ impl Row {
         input: &mut impl Read,
         head: &Head,
         buffer: Buffer,
-    ) -> Result<(), Fault> {
+    ) -> io::Result<Option<()>> {
         let size = head.size(Word::Entries);
         head.read_buffer(input, buffer, &mut self.entries, size)
     }
 
     // What the oracle left, where it follows.
-    fn read_after(&mut self, input: &mut impl Read, head: &Head) -> Result<(), Fault> {
-        self.read_entries(input, head, Buffer::EntriesAfter)?;
+    fn read_after(&mut self, input: &mut impl Read, head: &Head) -> io::Result<Option<()>> {
+        let entries = self.read_entries(input, head, Buffer::EntriesAfter)?;
         let size = head.size(Word::Output);
-        head.read_buffer(input, Buffer::OutputAfter, &mut self.output, size)
+        let output = head.read_buffer(input, Buffer::OutputAfter, &mut self.output, size)?;
+        Ok(entries.and(output))
     }
 
     fn answer(&self, number: u32) -> Answer<'_> {
@@ -113,10 +116,11 @@ impl Draws {
     }
 
     // Memory and entries before the call, where they follow.
-    fn read_before(&mut self, input: &mut impl Read, head: &Head) -> Result<(), Fault> {
+    fn read_before(&mut self, input: &mut impl Read, head: &Head) -> io::Result<Option<()>> {
         let size = head.size(Word::Palette) + head.size(Word::Oam) + head.size(Word::Registers);
-        head.read_buffer(input, Buffer::Memory, &mut self.memory, size)?;
-        self.row.read_entries(input, head, Buffer::Entries)
+        let memory = head.read_buffer(input, Buffer::Memory, &mut self.memory, size)?;
+        let entries = self.row.read_entries(input, head, Buffer::Entries)?;
+        Ok(memory.and(entries))
     }
 
     // A draw or a reset.
@@ -126,9 +130,10 @@ impl Draws {
         head: &Head,
         images: &[u8],
     ) -> Result<(), Fault> {
-        self.read_before(input, head)?;
+        let before = self.read_before(input, head)?;
         let mut oracle = self.row;
-        oracle.read_after(input, head)?;
+        let after = oracle.read_after(input, head)?;
+        before.and(after).ok_or(Fault::Cut)?;
         let number = match head.call() {
             Call::Draw => self.row.draw(head, Screen::new(head, images, &self.memory)),
             _ => self.row.reset(head),
@@ -163,9 +168,10 @@ impl Draws {
         head: &Head,
         images: &[u8],
     ) -> Result<(), Fault> {
-        self.read_before(input, head)?;
+        let before = self.read_before(input, head)?;
         let mut bytes = [0; FIELDS_SIZE];
-        input.read_exact(&mut bytes)?;
+        let after = read_whole(input, &mut bytes)?;
+        before.and(after).ok_or(Fault::Cut)?;
         let oracle: [u32; FIELDS] = array::from_fn(|k| rows::word_at(&bytes, k));
         let given = self.reason(head, images);
         compare_fields(
@@ -197,8 +203,9 @@ fn fields(reason: Reason) -> [u32; FIELDS] {
 pub(crate) fn replay_step(input: &mut impl Read, head: &Head) -> Result<(), Fault> {
     let mut references = [0; REFERENCES_ROOM];
     let mut oracle = [0; REFERENCES_ROOM];
-    input.read_exact(&mut references)?;
-    input.read_exact(&mut oracle)?;
+    let before = read_whole(input, &mut references)?;
+    let after = read_whole(input, &mut oracle)?;
+    before.and(after).ok_or(Fault::Cut)?;
     let number = ashlarkin_step(
         head.signed_half(Word::X2),
         head.signed_half(Word::Y2),

@@ -1,7 +1,6 @@
 // Reading the list.
 ghost use Rattle.std.specs.Prelude.{◌^◌, ◌<◌};
 
-use crate::compare::Fault;
 use std::io;
 use std::io::{ErrorKind, Read};
 
@@ -142,20 +141,22 @@ impl Head {
         self.half(word).cast_signed()
     }
 
-    // Fills the first bytes of the room, if the buffer follows.
+    // Fills the first bytes of the room, if the buffer follows; none where the list ends before, or where it has no room. What
+    // follows in the record is read all the same, so that an input that fails there is told.
     pub(crate) fn read_buffer(
         &self,
         input: &mut impl Read,
         buffer: Buffer,
         room: &mut [u8],
         size: usize,
-    ) -> Result<(), Fault> {
+    ) -> io::Result<Option<()>> {
         if self.word(Word::Follow) & buffer as u32 == 0 {
-            return Ok(());
+            return Ok(Some(()));
         }
-        let bytes = room.get_mut(..size).ok_or(Fault::Cut)?;
-        input.read_exact(bytes)?;
-        Ok(())
+        match room.get_mut(..size) {
+            Some(bytes) => read_whole(input, bytes),
+            None => Ok(None),
+        }
     }
 }
 
