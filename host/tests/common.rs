@@ -49,7 +49,10 @@ impl Unprivileged {
         let folder = std::env::temp_dir().join(format!("ashlarkin-{test}-{}", std::process::id()));
         fs::create_dir_all(&folder).unwrap();
         fs::set_permissions(&folder, Permissions::from_mode(0o777)).unwrap();
-        fs::copy(env!("CARGO_BIN_EXE_ashlarkin"), folder.join("ashlarkin")).unwrap();
+        // By another process: a program that this one writes can't be run while a child that another test's thread has just
+        // forked still holds it open.
+        let copied = Command::new("cp").arg(env!("CARGO_BIN_EXE_ashlarkin")).arg(folder.join("ashlarkin")).status();
+        assert!(copied.unwrap().success());
         Unprivileged { folder }
     }
 
