@@ -1,4 +1,5 @@
 // The calls that draw, reset, step and explain, each compared with the oracle's answer.
+ghost use Rattle.std.specs.Prelude.{◌≡◌};
 
 use crate::compare::{Answer, Fault, compare, compare_fields};
 use crate::list::{
@@ -7,9 +8,8 @@ use crate::list::{
 };
 use ashlarkin::{ashlarkin_draw, ashlarkin_explain, ashlarkin_reset, ashlarkin_step};
 use explain::Reason;
-use std::array;
-use std::io;
 use std::io::Read;
+use std::{array, io};
 
 // A reason's fields behind its number, and how many bytes the list has of them.
 const FIELDS: usize = 10;
@@ -87,7 +87,9 @@ impl Row {
         Ok(entries.and(output))
     }
 
-    fn answer(&self, number: u32) -> Answer<'_> {
+    fn answer(&self, number: u32) -> Answer<'_>
+        ensures { (result.number ≡ number) × (result.entries.now ≡ self.now.entries) × (result.output.now ≡ self.now.output) }
+    {
         Answer {
             number,
             entries: &self.entries,
