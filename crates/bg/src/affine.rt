@@ -71,6 +71,6 @@ impl Picture for AffinePicture {
             format: PixelFormat::BPP8,
             bank: 0,
         };
-        tile.color::<0>(colors, x % TILE_SIDE, y % TILE_SIDE)
+        tile.color(colors, 0, x % TILE_SIDE, y % TILE_SIDE)
     }
 }

@@ -76,6 +76,6 @@ impl Sprite {
         ensures { result.0 ≡ texel self.now.reading self.now.mapping colors.entry.vram.now
             colors.entry.palette.now self.now.attrs x y }
     {
-        self.tile(x, y).color::<PALRAM_OFS_FG>(colors, x % 8, y % 8)
+        self.tile(x, y).color(colors, PALRAM_OFS_FG, x % 8, y % 8)
     }
 }

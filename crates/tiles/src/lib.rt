@@ -49,16 +49,16 @@ pub struct Tile {
 }
 
 impl Tile {
-    // The colour of a pixel, from the background's half of the palette or, at OFFSET 0x200, the sprites'.
-    pub fn color<const OFFSET: usize>(self, colors: Colors, x: usize, y: usize) -> Rgb15
-        requires { TileColors OFFSET self × (x < 8) × (y < 8) }
-        ensures { result.0 ≡ color_in_tile colors.entry OFFSET self x y }
+    // The colour of a pixel, from the background's half of the palette or, at offset 0x200, the sprites'.
+    pub fn color(self, colors: Colors, offset: usize, x: usize, y: usize) -> Rgb15
+        requires { TileColors offset self × (x < 8) × (y < 8) }
+        ensures { result.0 ≡ color_in_tile colors.entry offset self x y }
     {
         let index = read_pixel_index(colors.vram, self.addr, x, y, self.format);
-        get_palette_color(colors.palette, index, self.bank, OFFSET)
+        get_palette_color(colors.palette, index, self.bank, offset)
     }
 
-    // The colours of row y, from right to left if it is flipped.
+    // The colours of row y, from right to left if it is flipped; `color`'s offset is a constant here.
     pub fn row<const OFFSET: usize>(
         self,
         colors: Colors,
@@ -72,7 +72,7 @@ impl Tile {
             |x: usize| -> Rgb15
                 requires { TileColors OFFSET self × (x < 8) × (y < 8) }
                 ensures { result.0 ≡ color_in_tile colors.entry OFFSET self x y }
-            { self.color::<OFFSET>(colors, x, y) },
+            { self.color(colors, OFFSET, x, y) },
         );
         flip_row(row, flipped)
     }
