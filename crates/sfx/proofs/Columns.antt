@@ -16,6 +16,7 @@ use Rattle.memory.specs.Palette.{backdrop}
 use Rattle.regs.specs.Registers.{dispcnt}
 use Rattle.regs.specs.Display.{enable_obj}
 use Rattle.regs.specs.declared.reading.Reading.{Reading}
+use Rattle.regs_blend.specs.declared.BlendMode.{BlendMode}
 use Rattle.obj_entries.specs.Entry.{entry_cells, semi_mark}
 use Rattle.sfx_regions.specs.Region.{permitted}
 use Rattle.sfx_regions.specs.Code.{region_at}
@@ -42,9 +43,9 @@ line_color-in lines column None = refl
 line_color-in lines column (Some bg) = refl
 
 -- Rows are those of a line, by its entries, its places, its layers and the lines of backgrounds 0 to 3.
-pub record RowsOf (reading : Reading) (registers entries : List ℕ) (line : ℕ) (at : List (Option Background)) (l : LineLayers)
+pub record RowsOf (reading : Reading) (registers entries : List ℕ) (line : ℕ) (at : List (Option Background)) (l : LineLayers BlendMode)
     (lines : List (List Rgb15)) (rows : Rows) : Type 0 where
-  pub regions_are : rows.regions.now ≡ tab (column_region reading registers entries at line) 240
+  pub regions_are : rows.regions.now ≡ tab (column_region reading registers entries (map number_in at) line) 240
   pub tags_are : rows.tags.now ≡ tab (λ column. object_tag l.object (cell_at entry_cells entries column)) 240
   pub objects_are : rows.objects.now ≡ tab (λ column. (cell_at entry_cells entries column).color.0) 240
   pub first_is : rows.first.now ≡ line_in lines (number_at at 0)
@@ -53,9 +54,9 @@ pub record RowsOf (reading : Reading) (registers entries : List ℕ) (line : ℕ
   pub fourth_is : rows.fourth.now ≡ line_in lines (number_at at 3)
 
 module _ (reading : Reading) (palette registers entries : List ℕ) (line : ℕ) (at : List (Option Background))
-    (lines : List (List Rgb15)) {l : LineLayers} {w : Weights} {rows : Rows}
+    (lines : List (List Rgb15)) {l : LineLayers BlendMode} {w : Weights} {rows : Rows}
     (at-is : map number_in at ≡ places (ordered registers))
-    (l-is : LineLayersOf palette registers at l) (w_is : WeightsOf reading registers w)
+    (l-is : LineLayersOf palette registers (map number_in at) l) (w_is : WeightsOf reading registers w)
     (rows_are : RowsOf reading registers entries line at l lines rows) where
   -- The layers of a column's places are the backgrounds in their order.
   layers_are : (column : ℕ)
@@ -87,7 +88,7 @@ module _ (reading : Reading) (palette registers entries : List ℕ) (line : ℕ)
       (rw (
         column-pair palette registers at l-is (colors_at rows column) e flags,
         l-is.mode_is,
-        (region-bits (enable_obj (dispcnt registers)) at flags).effects_is,
+        (region-bits (enable_obj (dispcnt registers)) (map number_in at) flags).effects_is,
         layers_are column,
       )
       (pair-color reading registers (semi_mark e) flags _ w_is))

@@ -13,6 +13,7 @@ use Rattle.rgb15.specs.declared.Rgb15.{Rgb15}
 use Rattle.rows.specs.Tab.{tab}
 use Rattle.rows.proofs.Below.{all_below_at}
 use Rattle.rows.proofs.Tab.{tab_cong}
+use Rattle.regs_blend.specs.declared.BlendMode.{BlendMode}
 use Rattle.sfx_layers.specs.Code.{semi_bit, Unmarked}
 use Rattle.sfx_layers.specs.declared.layer.LineLayers.{LineLayers}
 use Rattle.sfx_layers.proofs.Marks.{column_pair_plain}
@@ -22,7 +23,7 @@ use Rattle.sfx_effects.proofs.Colors.{pair_color-top}
 use Rattle.sfx.specs.Code.{is_plain, column_color}
 use Rattle.sfx.specs.declared.Rows.{Rows}
 
-module _ {line : LineLayers} (unmarked-is : Unmarked line) (other : blends line.mode ≡ false) (w : Weights) (rows : Rows)
+module _ {line : LineLayers BlendMode} (unmarked-is : Unmarked line) (other : blends line.mode ≡ false) (w : Weights) (rows : Rows)
     (plain : is_plain rows.tags.now ≡ true) where
   tag_plain : (k : ℕ) → k < 240 → bit semi_bit (get_or rows.tags.now k 0) ≡ false
   tag_plain k k< =

@@ -5,6 +5,7 @@ use Rattle.rgb15.specs.declared.Rgb15.{Rgb15}
 use Rattle.bits.specs.Bits.{bits, bit}
 use Rattle.rgb15.specs.Colour.{rgb}
 use Rattle.rows.specs.Below.{all_below}
+use Rattle.regs_blend.specs.declared.BlendMode.{BlendMode}
 use Rattle.sfx_layers.specs.Code.{semi_bit, effects_bit, column_pair}
 use Rattle.sfx_layers.specs.declared.layer.LineLayers.{LineLayers}
 use Rattle.sfx_effects.specs.Code.{pair_color}
@@ -27,7 +28,7 @@ colors_at rows column =
     color rows.first.now ∷ color rows.second.now ∷ color rows.third.now ∷ color rows.fourth.now ∷ []
 
 -- The colour of a column, by its line and the rows that it is composed of; where layers can't be blended, by the top alone.
-unfoldable pub column_color : Bool → LineLayers → Weights → Rows → ℕ → ℕ
+unfoldable pub column_color : Bool → LineLayers BlendMode → Weights → Rows → ℕ → ℕ
 column_color blends line w rows column =
     let region = get_or rows.regions.now column 0 in
     pair_color blends w line.mode (bit effects_bit region)

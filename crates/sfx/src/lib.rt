@@ -64,7 +64,7 @@ impl<'a> Rows<'a> {
             self.objects[column],
             colors,
         );
-        do_effect::<BLENDS>(
+        do_effect::<BLENDS, _>(
             weights,
             line.mode,
             is_permitted(region, EFFECTS_PART),

@@ -5,7 +5,6 @@
 ghost use Rattle.std.specs.Prelude.{◌≡◌, ◌≤◌};
 ghost use Rattle.regs.specs.Registers.{bldy};
 ghost use Rattle.regs.specs.Reading.{counted};
-ghost use Rattle.sfx_layers.specs.Code.{mode_numbered};
 ghost use Rattle.sfx_effects.specs.Code.{WeightsOf, is_blended, is_faded};
 ghost use Rattle.sfx_effects.specs.Code.{fade_color, fade_weight, pair_color};
 
@@ -16,7 +15,7 @@ use regs::Reading;
 use regs_blend::{BlendMode, read_bldalpha, read_bldy};
 use rgb15::Rgb15;
 use rows::choose;
-use sfx_layers::{FIRST_TARGET, LayerPair, SECOND_TARGET, SEMI_OBJECT, mode_numbered};
+use sfx_layers::{EffectMode, FIRST_TARGET, LayerPair, SECOND_TARGET, SEMI_OBJECT};
 pub use weights::Weights;
 
 // A line's weights, as the reading counts them.
@@ -67,30 +66,19 @@ fn fade_weight(weights: Weights, mode: BlendMode, permitted: bool, tag: u16) -> 
 
 // The Rust's effects, do_alpha, do_brighten and do_darken, and none: one blend for all. Where no layers of a line can be blended
 // the caller says so, and the compiler drops the bottom.
-pub fn do_effect<const BLENDS: bool>(
+pub fn do_effect<const BLENDS: bool, M: EffectMode>(
     weights: Weights,
-    mode: BlendMode,
+    mode: M,
     permitted: bool,
     layers: LayerPair,
 ) -> Rgb15
-    ensures { result.0 ≡ pair_color BLENDS weights mode permitted layers }
+    ensures { result.0 ≡ pair_color BLENDS weights (M.mode mode) permitted layers }
 {
+    let mode = mode.mode();
     let blended = BLENDS & is_blended(mode, permitted, layers);
     let evy = fade_weight(weights, mode, permitted, layers.top_tag);
     let other = choose(blended, layers.bottom, fade_color(mode).0);
     let my_weight = choose(blended, weights.eva, 16 - evy);
     let other_weight = choose(blended, weights.evb, evy);
     Rgb15(layers.top).blend_with(Rgb15(other), my_weight, other_weight)
-}
-
-// The same, where the control's effect is a number, any at all.
-pub fn do_effect_by<const BLENDS: bool>(
-    weights: Weights,
-    mode: u16,
-    permitted: bool,
-    layers: LayerPair,
-) -> Rgb15
-    ensures { result.0 ≡ pair_color BLENDS weights (mode_numbered mode) permitted layers }
-{
-    do_effect::<BLENDS>(weights, mode_numbered(mode), permitted, layers)
 }

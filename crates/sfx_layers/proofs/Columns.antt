@@ -4,12 +4,12 @@ use Prim.Native.Nat.{ℕ, zero, suc, ◌<◌}
 use native.Mathlib.Omega.{arith}
 use mathlib.Core.Path.{◌≡◌, refl, ap, ◌∙◌}
 use mathlib.Core.Bool.{Bool, true, false, cond, ◌&&◌}
-use mathlib.Core.List.{List, [], ◌∷◌}
+use mathlib.Core.List.{List, [], ◌∷◌, map}
 use lib.Dec.{leb}
 use Rattle.std.specs.Prelude.{Option, Some, None}
 use Rattle.sfx_sorting.specs.Code.{number_in}
 use Rattle.sfx_sorting.specs.declared.background.Background.{Background}
-use lib.ListN.{get_or}
+use lib.ListN.{get_or, get_or-map}
 use Rattle.rows.specs.Tab.{tab}
 use Rattle.rows.proofs.Tab.{tab_cong, get_or-of-tab}
 use Rattle.rgb15.specs.declared.Rgb15.{Rgb15}
@@ -20,6 +20,7 @@ use Rattle.regs.specs.Display.{enable_obj}
 use Rattle.regs.specs.declared.reading.Reading.{Reading}
 use Rattle.regs_window.specs.Windows.{permits}
 use Rattle.regs_blend.specs.Layers.{background_layer}
+use Rattle.regs_blend.specs.declared.BlendMode.{BlendMode}
 use Rattle.regs_blend.proofs.Laws.{layer_bit-background}
 use Rattle.obj_entries.specs.Entry.{semi_mark}
 use Rattle.obj_entries.specs.declared.Entry.{Entry}
@@ -74,7 +75,8 @@ module _ (registers : List ℕ) (semi : Bool) where
 
     -- The background of a place, if it has one.
     put-place : (place : Option Background)
-        → put_background (pair_of (first_two flags back rest)) (permits_place flags place) (line_place_tag registers place) color
+        → put_background (pair_of (first_two flags back rest)) (permits_place flags (number_in place))
+        (line_place_tag registers (number_in place)) color
         ≡ pair_of (first_two flags back (placed_layer registers (number_in place) color rest))
     unfolding place_tag placed_layer put_background
     put-place None = refl
@@ -103,12 +105,12 @@ module _ (registers : List ℕ) (semi : Bool) where
 
 -- ---- a column
 
-module _ (palette registers : List ℕ) (at : List (Option Background)) {line : LineLayers}
-    (line-is : LineLayersOf palette registers at line)
+module _ (palette registers : List ℕ) (at : List (Option Background)) {line : LineLayers BlendMode}
+    (line-is : LineLayersOf palette registers (map number_in at) line)
     (colors : List Rgb15) (e : Entry) (flags : ℕ) where
   -- The word of the column's region.
   abbrev word : ℕ
-  word = region_word (enable_obj (dispcnt registers)) at flags
+  word = region_word (enable_obj (dispcnt registers)) (map number_in at) flags
 
   backdrop-pair : backdrop_pair line ≡ pair_of registers (semi_mark e) (first_two flags (backdrop_layer (backdrop palette)) [])
   unfolding first_two keep pair_of
@@ -116,18 +118,21 @@ module _ (palette registers : List ℕ) (at : List (Option Background)) {line : 
       let plain = tag_plain registers (semi_mark e) (backdrop_layer (backdrop palette)) refl in
       rw (line-is.backdrop_is, line-is.backdrop_tag_is ∙ plain)
 
-  place : (k : ℕ) → k < 4 → get_or line.places k 0 ≡ line_place_tag registers (get_or at k None)
-  place k k< = get_or-of-tab _ 4 k 0 line-is.places_are k<
+  held : (k : ℕ) → get_or (map number_in at) k None ≡ number_at at k
+  held k = get_or-map number_in at k None
+
+  place : (k : ℕ) → k < 4 → get_or line.places k 0 ≡ line_place_tag registers (number_at at k)
+  place k k< = get_or-of-tab _ 4 k 0 line-is.places_are k< ∙ ap (line_place_tag registers) (held k)
 
   background-pair : background_pair line word colors
       ≡ pair_of registers (semi_mark e)
       (first_two flags (backdrop_layer (backdrop palette)) (placed_layers registers (number_at at) (line_color colors)))
   unfolding background_pair placed_layers
   background-pair =
-      let bits = region-bits (enable_obj (dispcnt registers)) at flags in
+      let bits = region-bits (enable_obj (dispcnt registers)) (map number_in at) flags in
       let semi = semi_mark e in
       let back : Layer = backdrop_layer (backdrop palette) in
-      rw (bits.place0_is, bits.place1_is, bits.place2_is, bits.place3_is)
+      rw (bits.place0_is, bits.place1_is, bits.place2_is, bits.place3_is, held 0, held 1, held 2, held 3)
       (rw (place 0 (omega arith), place 1 (omega arith), place 2 (omega arith), place 3 (omega arith), backdrop-pair)
       (rw (
         put-place registers semi flags back [] (line_color colors 3) (get_or at 3 None),
@@ -141,14 +146,14 @@ module _ (palette registers : List ℕ) (at : List (Option Background)) {line : 
       (layers registers flags (backdrop palette) (placed_layers registers (number_at at) (line_color colors)) e)
   unfolding column_pair layers object_counts
   column-pair =
-      let bits = region-bits (enable_obj (dispcnt registers)) at flags in
+      let bits = region-bits (enable_obj (dispcnt registers)) (map number_in at) flags in
       rw (background-pair, bits.objects_is, line-is.object_is, tag_object registers (semi_mark e) e refl)
       (place_object registers (semi_mark e) (object_layer e) _ _ _ _ _ refl refl refl)
 
 -- ---- a line
 
 -- The words of the five regions, by the flags that were read of each.
-pub regions_are : (reading : Reading) (registers entries : List ℕ) (at : List (Option Background)) (line : ℕ)
+pub regions_are : (reading : Reading) (registers entries : List ℕ) (at : List (Option ℕ)) (line : ℕ)
     {objects : Bool} {words : RegionWords} {row : List ℕ}
     → objects ≡ enable_obj (dispcnt registers)
     → words.win0 ≡ region_word objects at (permitted registers Win0)

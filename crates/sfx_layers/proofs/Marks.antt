@@ -7,7 +7,6 @@ use mathlib.Core.Bool.{Bool, true, false, cond}
 use mathlib.Core.List.{List}
 use lib.Dec.{eqb}
 use Rattle.std.specs.Prelude.{Option, Some, None}
-use Rattle.sfx_sorting.specs.declared.background.Background.{Background}
 use Rattle.rgb15.specs.declared.Rgb15.{Rgb15}
 use Rattle.rows.proofs.Tab.{get_or-of-tab}
 use Rattle.bits.specs.Bits.{bit}
@@ -15,6 +14,7 @@ use Rattle.regs.specs.Registers.{bgcnt, bldcnt}
 use Rattle.regs.specs.Background.{priority}
 use Rattle.regs_blend.specs.Layers.{background_layer, targets}
 use Rattle.regs_blend.specs.Blend.{target1, target2}
+use Rattle.regs_blend.specs.declared.BlendMode.{BlendMode}
 use Rattle.regs_blend.specs.declared.layer.RenderLayerKind.{RenderLayerKind}
 use Rattle.regs_blend.specs.declared.layer.RenderLayerKind.TheVariants.{Objects}
 use Rattle.sfx_layers.specs.Code.{line_color, layer_tag, semi_bit, place_tag, is_seen, goes_over, LineLayersOf, Unmarked}
@@ -31,14 +31,14 @@ layer_tag_plain first second priority kind =
     omega (arith, as_bit_bound (targets first kind), as_bit_bound (targets second kind)) in
     ap (λ n. eqb n 1) e
 
-place_tag_plain : (registers : List ℕ) (first second : ℕ) (place : Option Background)
+place_tag_plain : (registers : List ℕ) (first second : ℕ) (place : Option ℕ)
     → bit semi_bit (place_tag registers first second place) ≡ false
 unfolding place_tag
 place_tag_plain registers first second None = refl
 place_tag_plain registers first second (Some bg) =
-    layer_tag_plain first second (priority (bgcnt registers bg.number)) (background_layer bg.number)
+    layer_tag_plain first second (priority (bgcnt registers bg)) (background_layer bg)
 
-module _ {palette registers : List ℕ} {at : List (Option Background)} {l : LineLayers}
+module _ {palette registers : List ℕ} {at : List (Option ℕ)} {l : LineLayers BlendMode}
     (l-is : LineLayersOf palette registers at l) where
   pub unmarked : Unmarked l
   unmarked =
@@ -62,7 +62,7 @@ cond_plain : (t : Bool) (a b : ℕ) → bit semi_bit a ≡ false → bit semi_bi
 cond_plain true a b a-plain b-plain = a-plain
 cond_plain false a b a-plain b-plain = b-plain
 
-module _ {line : LineLayers} (unmarked-is : Unmarked line) (region : ℕ) (colors : List Rgb15) where
+module _ {M : Type 0} {line : LineLayers M} (unmarked-is : Unmarked line) (region : ℕ) (colors : List Rgb15) where
   background_pair_plain : bit semi_bit (background_pair line region colors).top_tag ≡ false
   unfolding background_pair put_background
   background_pair_plain =

@@ -7,7 +7,6 @@ use mathlib.Core.Bool.{Bool, true, false, ◌&&◌}
 use mathlib.Core.List.{List}
 use lib.Dec.{eqb}
 use Rattle.std.specs.Prelude.{Option, None}
-use Rattle.sfx_sorting.specs.declared.background.Background.{Background}
 use lib.ListN.{get_or}
 use borrow.Author.Tests.{eqb-true, eqb-false}
 use Rattle.bits.specs.Bits.{bits, bit}
@@ -78,7 +77,7 @@ module _ (registers : List ℕ) (semi : Bool) where
 -- ---- the word of a region
 
 -- What can be read from a region's word.
-pub record RegionBits (objects : Bool) (at : List (Option Background)) (flags w : ℕ) : Type 0 where
+pub record RegionBits (objects : Bool) (at : List (Option ℕ)) (flags w : ℕ) : Type 0 where
   pub place0_is : bit 0 w ≡ permits_place flags (get_or at 0 None)
   pub place1_is : bit 1 w ≡ permits_place flags (get_or at 1 None)
   pub place2_is : bit 2 w ≡ permits_place flags (get_or at 2 None)
@@ -86,7 +85,7 @@ pub record RegionBits (objects : Bool) (at : List (Option Background)) (flags w 
   pub objects_is : bit objects_bit w ≡ permits_objects flags && objects
   pub effects_is : bit effects_bit w ≡ permits_effects flags
 
-pub region-bits : (objects : Bool) (at : List (Option Background)) (flags : ℕ)
+pub region-bits : (objects : Bool) (at : List (Option ℕ)) (flags : ℕ)
     → RegionBits objects at flags (region_word objects at flags)
 unfolding region_word
 region-bits objects at flags =

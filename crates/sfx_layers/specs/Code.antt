@@ -20,7 +20,6 @@ use Rattle.regs_blend.specs.declared.BlendMode.TheVariants.{BldNone, BldAlpha, B
 use Rattle.regs_blend.specs.declared.layer.RenderLayerKind.{RenderLayerKind}
 use Rattle.regs_blend.specs.declared.layer.RenderLayerKind.TheVariants.{Objects, Backdrop}
 use Rattle.obj_entries.specs.declared.Entry.{Entry}
-use Rattle.sfx_sorting.specs.declared.background.Background.{Background}
 use Rattle.sfx_regions.specs.Region.{permitted}
 use Rattle.sfx_regions.specs.Code.{region_at}
 use Rattle.sfx_layers.specs.declared.layer.LayerPair.{LayerPair}
@@ -102,17 +101,16 @@ put_object behind permitted tag color =
     }
 
 -- The tag of the background in a place; 0 if it has none.
-unfoldable pub place_tag : List ℕ → ℕ → ℕ → Option Background → ℕ
+unfoldable pub place_tag : List ℕ → ℕ → ℕ → Option ℕ → ℕ
 place_tag registers first second None = 0
-place_tag registers first second (Some bg) =
-    layer_tag first second (background_layer bg.number) (priority (bgcnt registers bg.number))
+place_tag registers first second (Some bg) = layer_tag first second (background_layer bg) (priority (bgcnt registers bg))
 
 -- The same, by the registers' targets.
-abbrev pub line_place_tag : List ℕ → Option Background → ℕ
+abbrev pub line_place_tag : List ℕ → Option ℕ → ℕ
 line_place_tag registers = place_tag registers (target1 (bldcnt registers)) (target2 (bldcnt registers))
 
 -- A line's layers are those of its palette, its registers and its places.
-pub record LineLayersOf (palette registers : List ℕ) (at : List (Option Background)) (l : LineLayers) : Type 0 where
+pub record LineLayersOf (palette registers : List ℕ) (at : List (Option ℕ)) (l : LineLayers BlendMode) : Type 0 where
   pub places_are : l.places ≡ tab (λ k. line_place_tag registers (get_or at k None)) 4
   pub object_is : l.object ≡ line_tag registers Objects 0
   pub backdrop_is : l.backdrop ≡ backdrop palette
@@ -120,12 +118,12 @@ pub record LineLayersOf (palette registers : List ℕ) (at : List (Option Backgr
   pub mode_is : l.mode ≡ blend_mode (bldcnt registers)
 
 -- No tag of a background or the backdrop has the mark of a semi-transparent object.
-pub record Unmarked (l : LineLayers) : Type 0 where
+pub record Unmarked {M : Type 0} (l : LineLayers M) : Type 0 where
   pub places_plain : (k : ℕ) → k < 4 → bit semi_bit (get_or l.places k 0) ≡ false
   pub backdrop_plain : bit semi_bit l.backdrop_tag ≡ false
 
 -- The layers of a column where only the backdrop is.
-abbrev pub backdrop_pair : LineLayers → LayerPair
+abbrev pub backdrop_pair : {M : Type 0} → LineLayers M → LayerPair
 backdrop_pair line =
     record {
       top = line.backdrop;
@@ -135,7 +133,7 @@ backdrop_pair line =
     }
 
 -- The layers that the backgrounds of a column make, by what its region permits and the colour of each place.
-unfoldable pub background_pair : LineLayers → ℕ → List Rgb15 → LayerPair
+unfoldable pub background_pair : {M : Type 0} → LineLayers M → ℕ → List Rgb15 → LayerPair
 background_pair line region colors =
     let put : ℕ → LayerPair → LayerPair =
     λ k behind. put_background behind (bit k region) (get_or line.places k 0) (line_color colors k) in
@@ -144,9 +142,9 @@ background_pair line region colors =
 -- ---- regions
 
 -- Whether flags permit the background of a place, if it has one.
-abbrev pub permits_place : ℕ → Option Background → Bool
+abbrev pub permits_place : ℕ → Option ℕ → Bool
 permits_place flags None = false
-permits_place flags (Some bg) = permits flags bg.number
+permits_place flags (Some bg) = permits flags bg
 
 -- The bits of a region's word: bits 0 to 3 are the backgrounds of places 0 to 3, then objects and effects.
 abbrev pub objects_bit : ℕ
@@ -156,7 +154,7 @@ abbrev pub effects_bit : ℕ
 effects_bit = 5
 
 -- What a region permits, by its flags and whether sprites are on.
-unfoldable pub region_word : Bool → List (Option Background) → ℕ → ℕ
+unfoldable pub region_word : Bool → List (Option ℕ) → ℕ → ℕ
 region_word objects at flags =
     2 ^ 0 * as_bit (permits_place flags (get_or at 0 None))
     + 2 ^ 1 * as_bit (permits_place flags (get_or at 1 None))
@@ -166,13 +164,13 @@ region_word objects at flags =
     + 2 ^ effects_bit * as_bit (permits_effects flags)
 
 -- The word of a column's region.
-abbrev pub column_region : Reading → List ℕ → List ℕ → List (Option Background) → ℕ → ℕ → ℕ
+abbrev pub column_region : Reading → List ℕ → List ℕ → List (Option ℕ) → ℕ → ℕ → ℕ
 column_region reading registers entries at line column =
     region_word (enable_obj (dispcnt registers)) at (permitted registers (region_at reading registers entries column line))
 
 -- ---- a column
 
 -- The layers of a column, by its line, what its region permits, its object's tag and colour and the colour of each place.
-unfoldable pub column_pair : LineLayers → ℕ → ℕ → ℕ → List Rgb15 → LayerPair
+unfoldable pub column_pair : {M : Type 0} → LineLayers M → ℕ → ℕ → ℕ → List Rgb15 → LayerPair
 column_pair line region tag object colors =
     put_object (background_pair line region colors) (bit objects_bit region) tag object

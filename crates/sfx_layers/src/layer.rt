@@ -1,5 +1,6 @@
 // The layers of a column (gpu/layer.rs), each as two halfwords, which a loop over columns chooses between without branches.
-ghost use Rattle.std.specs.Prelude.{◌≡◌, ◌≤◌, ◌<◌, get_or, None};
+ghost use Rattle.std.specs.Prelude.{◌≡◌, ◌≤◌, ◌<◌, get_or, map, None};
+ghost use Rattle.sfx_sorting.specs.Code.{number_in};
 ghost use Rattle.sfx_layers.specs.Code.{mode_numbered, as_bit, layer_tag, object_tag, place_tag, LineLayersOf};
 ghost use Rattle.sfx_layers.specs.Code.{is_seen, put_background, background_pair, put_object, column_pair};
 
@@ -10,7 +11,7 @@ use regs::iodev::read_bgcnt;
 use regs_blend::{BlendControl, BlendMode, RenderLayerKind, read_bldcnt};
 use rgb15::Rgb15;
 use rows::choose;
-use sfx_sorting::Background;
+use sfx_sorting::{Background, Place};
 use std::array;
 
 // The parts of a layer's tag: whether it is a first target, a second target, a semi-transparent object; above, the priority.
@@ -38,14 +39,14 @@ pub struct LayerPair {
 }
 
 // What a line's layers have in common at every column: the tag of each place's background, that of objects, the backdrop,
-// and the control's effect.
+// and the control's effect, or its number, which no column's layers go by.
 #[derive(Clone, Copy)]
-pub struct LineLayers {
+pub struct LineLayers<M = BlendMode> {
     pub places: [u16; 4],
     pub object: u16,
     pub backdrop: u16,
     pub backdrop_tag: u16,
-    pub mode: BlendMode,
+    pub mode: M,
 }
 
 // The control's effect of a number, any at all.
@@ -87,7 +88,7 @@ fn place_tag(
     k: usize,
 ) -> u16
     requires { k < 4 }
-    ensures { result ≡ place_tag registers.now control.target1.0 control.target2.0 (get_or places k None) }
+    ensures { result ≡ place_tag registers.now control.target1.0 control.target2.0 (number_in (get_or places k None)) }
 {
     match places[k] {
         Some(bg) => {
@@ -99,13 +100,14 @@ fn place_tag(
 }
 
 // A line's layers, for its places.
-pub fn line_layers(
+pub fn line_layers<P: Place>(
     palette: &PaletteRam,
     registers: &Registers,
-    places: [Option<Background>; 4],
+    places: [P; 4],
 ) -> LineLayers
-    ensures { LineLayersOf palette.now registers.now places result }
+    ensures { LineLayersOf palette.now registers.now (map P.held places) result }
 {
+    let places = Background::in_places(places);
     let control = read_bldcnt(registers);
     LineLayers {
         places: array::from_fn(|k| place_tag(registers, control, places, k)),
@@ -146,7 +148,7 @@ fn put_background(behind: LayerPair, permitted: bool, tag: u16, color: u16) -> L
 
 // The layers of a column's backgrounds, put from the last place to the first: the first two that count, the backdrop
 // filling in.
-fn background_pair(line: LineLayers, region: u16, colors: [Rgb15; 4]) -> LayerPair
+fn background_pair<M: Copy>(line: LineLayers<M>, region: u16, colors: [Rgb15; 4]) -> LayerPair
     ensures { result ≡ background_pair line region colors }
 {
     let back = LayerPair {
@@ -181,8 +183,8 @@ fn put_object(behind: LayerPair, permitted: bool, tag: u16, color: u16) -> Layer
 }
 
 // The layers of a column, by what its region permits, its object's tag and colour and the colour of each place.
-pub fn column_pair(
-    line: LineLayers,
+pub fn column_pair<M: Copy>(
+    line: LineLayers<M>,
     region: u16,
     tag: u16,
     object: u16,

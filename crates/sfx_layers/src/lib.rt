@@ -3,10 +3,12 @@
 #![tactic(auto)]
 
 mod layer;
+mod mode;
 mod region;
 
 pub use layer::{
     FIRST_TARGET, LayerPair, LineLayers, MODE_ALPHA, MODE_WHITE, SECOND_TARGET, SEMI_OBJECT,
     column_pair, line_layers, mode_numbered, object_tag,
 };
+pub use mode::EffectMode;
 pub use region::{EFFECTS, EFFECTS_PART, is_permitted, line_regions};

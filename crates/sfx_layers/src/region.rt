@@ -1,9 +1,10 @@
 // What the regions of a line permit (gpu/sfx.rs, `filter_window_backgrounds` and the flags of `finalize_pixel`): a word for
 // each region.
-ghost use Rattle.std.specs.Prelude.{◌≡◌, ◌≤◌, ◌<◌, get_or, None};
+ghost use Rattle.std.specs.Prelude.{◌≡◌, ◌≤◌, ◌<◌, get_or, map, None};
 ghost use Rattle.bits.specs.Bits.{bit};
 ghost use Rattle.rows.specs.Tab.{tab};
 ghost use Rattle.sfx_regions.specs.Region.{permitted};
+ghost use Rattle.sfx_sorting.specs.Code.{number_in};
 ghost use Rattle.sfx_layers.specs.Code.{as_bit, permits_place, region_word, column_region};
 
 use crate::layer::bit_of;
@@ -13,7 +14,7 @@ use regs::Reading;
 use regs::iodev::read_dispcnt;
 use regs_window::WindowFlags;
 use sfx_regions::{RegionWords, WindowType, region_row, window_flags};
-use sfx_sorting::Background;
+use sfx_sorting::{Background, Place};
 
 // The parts of a region's word, by the number of their bit: 0 to 3 are the backgrounds of the four places, then objects and
 // effects.
@@ -37,7 +38,7 @@ pub fn is_permitted(region: u16, part: u32) -> bool
 // 1 if flags permit the background of place k and it has one, else 0.
 fn place_bit(flags: WindowFlags, places: [Option<Background>; 4], k: usize) -> u16
     requires { k < 4 }
-    ensures { (result ≡ as_bit (permits_place flags.0 (get_or places k None))) × (result ≤ 1) }
+    ensures { (result ≡ as_bit (permits_place flags.0 (number_in (get_or places k None)))) × (result ≤ 1) }
 {
     match places[k] {
         Some(bg) => bit_of(flags.bg_enabled(bg.number)),
@@ -47,7 +48,7 @@ fn place_bit(flags: WindowFlags, places: [Option<Background>; 4], k: usize) -> u
 
 // What a region permits, as a word.
 fn region_word(flags: WindowFlags, objects: bool, places: [Option<Background>; 4]) -> u16
-    ensures { result ≡ region_word objects places flags.0 }
+    ensures { result ≡ region_word objects (map number_in places) flags.0 }
 {
     0x1 * place_bit(flags, places, 0)
         + 0x2 * place_bit(flags, places, 1)
@@ -58,18 +59,19 @@ fn region_word(flags: WindowFlags, objects: bool, places: [Option<Background>; 4
 }
 
 // What the region of each column permits.
-pub fn line_regions(
+pub fn line_regions<P: Place>(
     entries: &Entries,
     registers: &Registers,
     reading: Reading,
     line: usize,
-    places: [Option<Background>; 4],
+    places: [P; 4],
 ) -> [u16; DISPLAY_WIDTH]
-    ensures { result ≡ tab (column_region reading registers.now entries.now places line) 240 }
+    ensures { result ≡ tab (column_region reading registers.now entries.now (map P.held places) line) 240 }
 {
+    let places = Background::in_places(places);
     let objects = read_dispcnt(registers).enable_obj;
     let word = |kind: WindowType| -> u16
-        ensures { result ≡ region_word objects places (permitted registers.entry.now kind) }
+        ensures { result ≡ region_word objects (map number_in places) (permitted registers.entry.now kind) }
     { region_word(window_flags(registers, kind), objects, places) };
     let words = RegionWords {
         win0: word(WindowType::Win0),

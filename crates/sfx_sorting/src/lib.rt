@@ -13,7 +13,7 @@ mod places;
 
 pub use background::Background;
 use memory::Registers;
-pub use places::NO_BACKGROUND;
+pub use places::{NO_BACKGROUND, Place};
 use regs::iodev::{read_bgcnt, read_dispcnt};
 
 // The keys of backgrounds that are on are below this, those of the others from it on.

@@ -8,7 +8,7 @@ pub returns : goal.returns
 unfolding pair_color
 returns g c =
     rw (c.blend_with.ensures, c.choose-other_weight.ensures, c.choose-my_weight.ensures, c.choose-other.ensures)
-    (rw (c.fade_color.ensures, c.fade_weight-evy.ensures.0, c.is_blended.ensures))
+    (rw (c.fade_color.ensures, c.fade_weight-evy.ensures.0, c.is_blended.ensures, c.mode-mode.ensures))
 
 pub blend_with-requires : goal.blend_with-requires
 blend_with-requires g c =

@@ -5,7 +5,7 @@ use Rattle.sfx_layers.proofs.layer.background_pair.Goals as goal
 
 pub returns : goal.returns
 unfolding background_pair
-returns c =
+returns g c =
     rw (
       c.put_background.ensures,
       c.put_background-second.ensures,

@@ -5,4 +5,4 @@ use Rattle.sfx_layers.proofs.layer.column_pair.Goals as goal
 
 pub returns : goal.returns
 unfolding column_pair
-returns c = rw (c.put_object.ensures, c.background_pair-backgrounds.ensures, c.is_permitted.ensures)
+returns g c = rw (c.put_object.ensures, c.background_pair-backgrounds.ensures, c.is_permitted.ensures)
