@@ -7,7 +7,7 @@ pub struct Weights {
     pub eva: u16,
     pub evb: u16,
     pub evy: u16,
-    ghost eva_bound: { eva ≤ 31 },
-    ghost evb_bound: { evb ≤ 31 },
-    ghost evy_bound: { evy ≤ 16 },
+    pub ghost eva_bound: { eva ≤ 31 },
+    pub ghost evb_bound: { evb ≤ 31 },
+    pub ghost evy_bound: { evy ≤ 16 },
 }

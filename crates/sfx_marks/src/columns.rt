@@ -6,6 +6,6 @@ ghost use Rattle.std.specs.Prelude.{◌≤◌};
 pub struct Columns {
     pub left: usize,
     pub right: usize,
-    ghost ordered: { left ≤ right },
-    ghost bound: { right ≤ 240 },
+    pub ghost ordered: { left ≤ right },
+    pub ghost bound: { right ≤ 240 },
 }

@@ -17,7 +17,7 @@ use std::array;
 #[derive(Clone, Copy)]
 pub struct Marks {
     pub words: [u64; 4],
-    ghost clean: { Clean words },
+    pub ghost clean: { Clean words },
 }
 
 // A word with its n lowest marks set, or all of them.

@@ -4,5 +4,5 @@ ghost use Rattle.std.specs.Prelude.{◌<◌};
 #[derive(Clone, Copy)]
 pub struct Background {
     pub number: usize,
-    ghost below: { number < 4 },
+    pub ghost below: { number < 4 },
 }
