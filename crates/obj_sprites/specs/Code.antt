@@ -10,6 +10,7 @@ use Rattle.tiles.specs.Code.{TileColors}
 use Rattle.tiles.specs.declared.Tile.{Tile}
 use Rattle.regs.specs.Registers.{dispcnt}
 use Rattle.regs.specs.Display.{mode, obj_character_vram_mapping, obj_mapping}
+use Rattle.regs.specs.declared.ObjMapping.{ObjMapping}
 use Rattle.regs.specs.declared.reading.Reading.{Reading}
 use Rattle.obj_sprites.specs.Size.{obj_width, obj_height}
 use Rattle.obj_sprites.specs.Place.{below, on_line}
@@ -17,7 +18,6 @@ use Rattle.obj_sprites.specs.Tiles.{tiles_start, tile_at}
 use Rattle.obj_sprites.specs.Sprite.{Source, is_shown}
 use Rattle.obj_sprites.specs.declared.attrs.ObjAttrs.{ObjAttrs}
 use Rattle.obj_sprites.specs.declared.attrs.Size.{Size}
-use Rattle.obj_sprites.specs.declared.sprite.Sprite.{Sprite}
 use Rattle.obj_sprites.specs.declared.view.View.{View}
 
 -- A width and a height are those of a size and a shape.
@@ -43,10 +43,10 @@ abbrev pub OnLine : Reading → ObjAttrs → ℕ → Type 0
 OnLine reading s line = (line < 160) × (on_line reading s line ≡ true)
 
 -- A tile of sprites holds pixel (x, y) of one.
-pub record TileOf (s : Sprite) (x y : ℕ) (t : Tile) : Type 0 where
-  pub addr_is : t.addr ≡ tile_at s.reading s.mapping s.attrs x y
-  pub format_is : t.format ≡ s.attrs.format
-  pub bank_is : t.bank ≡ palette_bank s.attrs.format s.attrs.bank
+pub record TileOf (reading : Reading) (mapping : ObjMapping) (s : ObjAttrs) (x y : ℕ) (t : Tile) : Type 0 where
+  pub addr_is : t.addr ≡ tile_at reading mapping s x y
+  pub format_is : t.format ≡ s.format
+  pub bank_is : t.bank ≡ palette_bank s.format s.bank
   pub colors : TileColors PALRAM_OFS_FG t
 
 -- Whether a line may be in the sprite's box, by its type and its top alone: no box is higher than 128 lines.

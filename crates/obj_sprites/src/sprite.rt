@@ -60,7 +60,7 @@ impl Sprite {
     #[tactic(auto, unfolding(crate::specs::Tiles::tile_at))]
     pub fn tile(&self, x: usize, y: usize) -> Tile
         requires { (x < self.now.attrs.width) × (y < self.now.attrs.height) }
-        ensures { TileOf self.now x y result }
+        ensures { TileOf self.now.reading self.now.mapping self.now.attrs x y result }
     {
         let format = self.attrs.format;
         Tile {
